@@ -6,8 +6,8 @@ use Rattle.std.proofs.lemmas.List.{length-set, get_or_default, get_or-set_same, 
 use Rattle.std.proofs.lemmas.Option.{slice_get_within, get_or_from_slice_get}
 use Rattle.std.proofs.lemmas.Bool.{cases_eq}
 use Rattle.std.proofs.lemmas.Bool.Decides.{eqb_tells}
-use Rattle.base.specs.declared.controller.entry.Entry.{Entry}
-use Rattle.base.specs.declared.controller.entry.Entry.TheVariants.{Blank}
+use Rattle.base.specs.declared.controller.entry.CellEntry.{CellEntry}
+use Rattle.base.specs.declared.controller.entry.CellEntry.TheVariants.{Blank}
 use Rattle.base.specs.declared.controller.entry.Change.{Change}
 use Rattle.base.specs.Cells.{Cells, HasSize, cell_of, replaced, after_changes, entry_given, last_entry}
 
@@ -28,7 +28,7 @@ All-set {X} columns rows i row h e = λ k d low. by-place k d (omega (arith, len
     by-place k d low (inr other) = ap (λ r. length r) (get_or-set_other rows i k row d other) ∙ h k d low
 
 -- with another entry in a cell there are as many rows and columns
-pub HasSize-set : {S A : Type 0} (rows columns : ℕ) (cells : Cells S A) (i j : ℕ) (x : Entry S A) → HasSize rows columns cells → i < rows →
+pub HasSize-set : {S A : Type 0} (rows columns : ℕ) (cells : Cells S A) (i j : ℕ) (x : CellEntry S A) → HasSize rows columns cells → i < rows →
     HasSize rows columns (set cells i (set (get_or cells i []) j x))
 HasSize-set rows columns cells i j x h low = record {
   rows_are = length-set cells i (set (get_or cells i []) j x) ∙ h.rows_are;
@@ -38,20 +38,20 @@ HasSize-set rows columns cells i j x h low = record {
 }
 
 -- within the table it doesn't matter what is read past its end
-pub cell-default : {S A : Type 0} (rows columns : ℕ) (cells : Cells S A) (i j : ℕ) (d e : Entry S A) → HasSize rows columns cells → i < rows → j < columns →
+pub cell-default : {S A : Type 0} (rows columns : ℕ) (cells : Cells S A) (i j : ℕ) (d e : CellEntry S A) → HasSize rows columns cells → i < rows → j < columns →
     get_or (get_or cells i []) j d ≡ get_or (get_or cells i []) j e
 cell-default rows columns cells i j d e h low few =
     get_or_default (get_or cells i []) j d e (omega (arith, h.columns_are i [] (omega (arith, h.rows_are))))
 
 -- what was set in a row is read there
-set-here : {S A : Type 0} (cells : Cells S A) (i j k l : ℕ) (x d : Entry S A) → i < length cells → j < length (get_or cells i []) → k ≡ i → l ≡ j →
+set-here : {S A : Type 0} (cells : Cells S A) (i j k l : ℕ) (x d : CellEntry S A) → i < length cells → j < length (get_or cells i []) → k ≡ i → l ≡ j →
     get_or (get_or (set cells i (set (get_or cells i []) j x)) k []) l d ≡ x
 set-here cells i j k l x d in_rows in_row same_row same_column =
     rw (same_row, same_column)
     (ap (λ r. get_or r j d) (get_or-set_same cells i (set (get_or cells i []) j x) [] in_rows) ∙ get_or-set_same (get_or cells i []) j x d in_row)
 
 -- what is read elsewhere is as it was, in the same row or another
-set-elsewhere : {S A : Type 0} (cells : Cells S A) (i j k l : ℕ) (x d : Entry S A) → i < length cells → (k ≡ i → l ≡ j → ⊥) → (k ≡ i) ⊎ (k ≡ i → ⊥) →
+set-elsewhere : {S A : Type 0} (cells : Cells S A) (i j k l : ℕ) (x d : CellEntry S A) → i < length cells → (k ≡ i → l ≡ j → ⊥) → (k ≡ i) ⊎ (k ≡ i → ⊥) →
     get_or (get_or (set cells i (set (get_or cells i []) j x)) k []) l d ≡ get_or (get_or cells k []) l d
 set-elsewhere cells i j k l x d in_rows other (inl same_row) =
     rw same_row
@@ -83,7 +83,7 @@ has-cell states events row column listed cells state event whole =
 
 -- the cell replaced holds the entry
 pub replaced-here : {S E A : Type 0} (states : List S) (events : List E) (row : S → ℕ) (column : E → ℕ) → TableOf states events row column →
-    (cells : Cells S A) (state : S) (event : E) (entry : Entry S A) → HasSize (length states) (length events) cells →
+    (cells : Cells S A) (state : S) (event : E) (entry : CellEntry S A) → HasSize (length states) (length events) cells →
     cell_of row column (replaced row column cells state event entry) state event ≡ entry
 replaced-here states events row column listed cells state event entry whole =
     set-here cells (row state) (column event) (row state) (column event) entry Blank
@@ -92,14 +92,14 @@ replaced-here states events row column listed cells state event entry whole =
 
 -- with another entry in a cell there are as many rows and columns
 pub HasSize-replaced : {S E A : Type 0} (states : List S) (columns : ℕ) (row : S → ℕ) (column : E → ℕ) →
-    ((s : S) → slice_get states (row s) ≡ Some s) → (cells : Cells S A) (state : S) (event : E) (entry : Entry S A) →
+    ((s : S) → slice_get states (row s) ≡ Some s) → (cells : Cells S A) (state : S) (event : E) (entry : CellEntry S A) →
     HasSize (length states) columns cells → HasSize (length states) columns (replaced row column cells state event entry)
 HasSize-replaced states columns row column stands cells state event entry whole =
     HasSize-set (length states) columns cells (row state) (column event) entry whole (slice_get_within states (row state) state (stands state))
 
 -- each cell but the one replaced is as it was
 pub replaced-other : {S E A : Type 0} (states : List S) (events : List E) (row : S → ℕ) (column : E → ℕ) → TableOf states events row column →
-    (cells : Cells S A) (state : S) (event : E) (entry : Entry S A) (s : S) (e : E) → HasSize (length states) (length events) cells →
+    (cells : Cells S A) (state : S) (event : E) (entry : CellEntry S A) (s : S) (e : E) → HasSize (length states) (length events) cells →
     ¬ ((s ≡ state) × (e ≡ event)) → cell_of row column (replaced row column cells state event entry) s e ≡ cell_of row column cells s e
 replaced-other states events row column listed cells state event entry s e whole other =
     set-elsewhere cells (row state) (column event) (row s) (column e) entry Blank

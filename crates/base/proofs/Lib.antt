@@ -3,3 +3,7 @@ pub mod Naming
 pub mod Spellings
 pub mod Spelled
 pub mod Same
+pub mod Alike
+pub mod Fronts
+pub mod Lines
+pub mod Numbers

@@ -2,8 +2,8 @@
 use Rattle.std.specs.Prelude.{◌≡◌, ◌↔◌, ℕ, Some, Bool, true, false, ◌==◌, ◌&&◌, List, [], ◌∷◌, slice_get}
 use Rattle.std.proofs.Common.{refl, ap, subst, ◌∙◌, arith}
 use Rattle.std.proofs.lemmas.Bool.Decides.{nat_tests}
-use Rattle.base.specs.declared.controller.entry.Entry.{Entry}
-use Rattle.base.specs.declared.controller.entry.Entry.TheVariants.{Blank, Stall, Act}
+use Rattle.base.specs.declared.controller.entry.CellEntry.{CellEntry}
+use Rattle.base.specs.declared.controller.entry.CellEntry.TheVariants.{Blank, Stall, Act}
 use Rattle.base.specs.Entries.{same_list, same_entry}
 use Rattle.base.proofs.Cells.{same-place}
 
@@ -34,7 +34,7 @@ list-self place (x ∷ xs) = rw (number-self (place x)) (list-self place xs)
 -- the same by their numbers, and so equal
 pub entry-equal : {S A : Type 0} (states : List S) (row : S → ℕ) → ((x : S) → slice_get states (row x) ≡ Some x) →
     (kind : List A) (place : A → ℕ) → ((x : A) → slice_get kind (place x) ≡ Some x) →
-    (x y : Entry S A) → same_entry row place x y ≡ true → x ≡ y
+    (x y : CellEntry S A) → same_entry row place x y ≡ true → x ≡ y
 entry-equal states row stands kind place stand Blank Blank e = refl
 entry-equal states row stands kind place stand Blank Stall e = absurd (cc)
 entry-equal states row stands kind place stand Blank (Act n b) e = absurd (cc)
@@ -48,13 +48,13 @@ entry-equal states row stands kind place stand (Act m a) (Act n b) e =
     ap (λ s. Act s a) (same-place states row stands m n (number-same (row m) (row n) both.0)) ∙ ap (λ l. Act n l) (list-equal kind place stand a b both.1)
 
 -- an entry is the same as itself
-pub entry-self : {S A : Type 0} (row : S → ℕ) (place : A → ℕ) (x : Entry S A) → same_entry row place x x ≡ true
+pub entry-self : {S A : Type 0} (row : S → ℕ) (place : A → ℕ) (x : CellEntry S A) → same_entry row place x x ≡ true
 entry-self row place Blank = refl
 entry-self row place Stall = refl
 entry-self row place (Act next actions) = rw (number-self (row next)) (list-self place actions)
 
 pub same-equal : {S A : Type 0} (states : List S) (row : S → ℕ) → ((x : S) → slice_get states (row x) ≡ Some x) →
     (kind : List A) (place : A → ℕ) → ((x : A) → slice_get kind (place x) ≡ Some x) →
-    (x y : Entry S A) → (same_entry row place x y ≡ true) ↔ (x ≡ y)
+    (x y : CellEntry S A) → (same_entry row place x y ≡ true) ↔ (x ≡ y)
 same-equal states row stands kind place stand x y =
     (entry-equal states row stands kind place stand x y, λ e. subst (λ z. same_entry row place x z ≡ true) e (entry-self row place x))

@@ -2,16 +2,16 @@
 use Rattle.std.proofs.Common.{◌≡◌, ◌≢◌, ◌≤◌, ◌<◌, ◌+◌, ℕ, List, [], ◌∷◌, ◌++◌, Option, Some, None, length, map, take, drop, get_or, eqb, ap, sym, ◌∙◌, arith}
 use Rattle.std.proofs.Common.{length-append, append_assoc}
 use Rattle.std.specs.Prelude.{MatchOption, ◌==◌, ◌&&◌, Bool, true, false, refl, suc}
-use Rattle.base.specs.declared.controller.entry.Entry.{Entry}
-use Rattle.base.specs.declared.controller.entry.Entry.TheVariants.{Blank, Stall, Act}
+use Rattle.base.specs.declared.controller.entry.CellEntry.{CellEntry}
+use Rattle.base.specs.declared.controller.entry.CellEntry.TheVariants.{Blank, Stall, Act}
 use Rattle.base.specs.declared.controller.entry.Change.{Change}
 use Rattle.base.specs.Entries.{same_list, entry_words, SpellsOneChange}
 use Rattle.std.specs.Borrow.{Bor}
 use Rattle.std.proofs.lemmas.List.{length-map, map_more, append-nil}
 use Rattle.std.proofs.lemmas.Grind.{flat_map-append}
 use Rattle.std.proofs.lemmas.List.Splits.{length-slice_split}
-use Rattle.base.specs.Spelling.{words, spaced, named_in}
-use Rattle.base.specs.inner.Behind.{words_behind}
+use Rattle.base.specs.Words.{words, spaced, words_behind}
+use Rattle.base.specs.Spelling.{named_in}
 
 -- the first word, and those behind its blank
 pub cut-words : (o : Option (Bor (List ℕ))) (ws : List (List ℕ)) (w : List ℕ) → MatchOption o (ws ≡ w ∷ []) (λ rest. ws ≡ w ∷ words rest.now) →
@@ -85,7 +85,7 @@ same-names spelling one (x ∷ xs) (y ∷ ys) e = cc (one x y cc, same-names spe
 
 -- entries that are spelled alike are the same
 entry-one : {S A : Type 0} (state : S → List ℕ) (action : A → List ℕ) → ((x y : S) → state x ≡ state y → x ≡ y) →
-    ((x y : A) → action x ≡ action y → x ≡ y) → (e f : Entry S A) → entry_words state action e ≡ entry_words state action f → e ≡ f
+    ((x y : A) → action x ≡ action y → x ≡ y) → (e f : CellEntry S A) → entry_words state action e ≡ entry_words state action f → e ≡ f
 entry-one state action states actions (Act m a) (Act n b) e = cc (states m n cc, same-names action actions a b cc)
 entry-one state action states actions (Act m a) Blank e = absurd (cc)
 entry-one state action states actions (Act m a) Stall e = absurd (cc)
@@ -105,5 +105,5 @@ change-one state event action states events actions side c d e =
     let entry : c.entry ≡ d.entry = entry-one state action states actions c.entry d.entry (ap (λ l. drop 4 l) e) in
     ap (λ s. change s c.event c.entry) row ∙ ap (λ v. change d.state v c.entry) column ∙ ap (λ x. change d.state d.event x) entry
   where
-    change : {S E A : Type 0} → S → E → Entry S A → Change S E A
+    change : {S E A : Type 0} → S → E → CellEntry S A → Change S E A
     change s v x = record { state = s; event = v; entry = x }

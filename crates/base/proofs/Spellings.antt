@@ -16,11 +16,12 @@ use Rattle.base.specs.declared.step.Step.TheVariants as step
 use Rattle.base.specs.declared.step.Outcome.{Outcome}
 use Rattle.base.specs.declared.step.Outcome.TheVariants.{Sent, Moved, Held, Absent, Idle, Blank, Broken}
 use Rattle.base.specs.declared.step.Outcome.TheVariants as outcome
-use Rattle.base.specs.inner.Behind.{kind_word, words_behind, IsNoKindFirst, IsNoNumberFirst, IsNoStepFirst}
-use Rattle.base.specs.declared.text.steps.Kind.{Kind}
-use Rattle.base.specs.declared.text.steps.Kind.TheVariants as kind
-use Rattle.words.proofs.Fronts.{spelled}
-use Rattle.base.specs.Spelling.{words, outcome_words, IsNoOutcome, IsNoOutcomeWord, IsOutcomeWord, IsOutcomeLine, ask_words, step_words, FitsAsk, FitsStep}
+use Rattle.base.specs.inner.Behind.{kind_word, IsNoKindFirst, IsNoStepFirst}
+use Rattle.base.specs.Words.{words_behind, IsNoNumberFirst, words}
+use Rattle.base.specs.declared.text.steps.MessageKind.{MessageKind}
+use Rattle.base.specs.declared.text.steps.MessageKind.TheVariants as kind
+use Rattle.base.proofs.Fronts.{spelled}
+use Rattle.base.specs.Spelling.{outcome_words, IsNoOutcome, IsNoOutcomeWord, IsOutcomeWord, IsOutcomeLine, ask_words, step_words, FitsAsk, FitsStep}
 
 same_cache : (c d : CacheId) → c.0 < 2 ^ 32 → d.0 < 2 ^ 32 → decimal c.0 ≡ decimal d.0 → c ≡ d
 same_cache c d low below e = ap (λ n. record { 0 = n }) (decimal_injective c.0 d.0 (omega arith) (omega arith) e)
@@ -100,20 +101,20 @@ no_ask line behind first is none (Forward b c) others fits = λ e. absurd cc
 no_ask line behind first is none (Response b i) others fits = λ e. absurd cc
 
 -- what is below the last number of a step that serves such a message
-abbrev below_last : Kind → ℕ → Type 0
+abbrev below_last : MessageKind → ℕ → Type 0
 below_last kind.Request n = n < 2 ^ 64
 below_last kind.Forward n = n < 2 ^ 32
 below_last kind.Response n = n < 2 ^ 64
 
 -- the words of a step behind the word for a kind of messages
-record AreTwoNumbers (kind : Kind) (line others : List (List ℕ)) : Type 0 where
+record AreTwoNumbers (kind : MessageKind) (line others : List (List ℕ)) : Type 0 where
   block : ℕ
   number : ℕ
   spelled : line ≡ decimal block ∷ decimal number ∷ others
   small : block < 2 ^ 32
   below : below_last kind number
 
-two_numbers : (kind : Kind) (line : List (List ℕ)) (s : Step) (others : List (List ℕ)) → FitsStep s → kind_word kind ∷ line ≡ step_words s ++ others →
+two_numbers : (kind : MessageKind) (line : List (List ℕ)) (s : Step) (others : List (List ℕ)) → FitsStep s → kind_word kind ∷ line ≡ step_words s ++ others →
     AreTwoNumbers kind line others
 two_numbers kind.Request line (step.Ask c b a) others fits e = absurd cc
 two_numbers kind.Request line (Request b i) others fits e = record { block = b.0; number = i; spelled = cc; small = fits.0; below = fits.1 }
@@ -128,13 +129,13 @@ two_numbers kind.Response line (Request b i) others fits e = absurd cc
 two_numbers kind.Response line (Forward b c) others fits e = absurd cc
 two_numbers kind.Response line (Response b i) others fits e = record { block = b.0; number = i; spelled = cc; small = fits.0; below = fits.1 }
 
-below-64 : (kind : Kind) (n : ℕ) → below_last kind n → n < 2 ^ 64
+below-64 : (kind : MessageKind) (n : ℕ) → below_last kind n → n < 2 ^ 64
 below-64 kind.Request n low = low
 below-64 kind.Forward n low = omega (arith, low)
 below-64 kind.Response n low = low
 
 -- behind such a word and a first one, no number
-pub no_number : (kind : Kind) (line behind : List (List ℕ)) (first : List ℕ) → line ≡ first ∷ behind → IsNoNumberFirst 64 behind →
+pub no_number : (kind : MessageKind) (line behind : List (List ℕ)) (first : List ℕ) → line ≡ first ∷ behind → IsNoNumberFirst 64 behind →
     IsNoStepFirst (kind_word kind ∷ line)
 no_number kind line behind first is none s others fits e =
     let two = two_numbers kind line s others fits e in

@@ -1,20 +1,20 @@
 -- The cells of a controller's table: a row for each state, with a cell for each event.
 use Rattle.std.specs.Prelude.{◌≡◌, ℕ, All, Bool, ◌==◌, ◌&&◌, if◌then◌else◌, Option, Some, None, List, [], ◌∷◌, length, slice_index_or, slice_set, unwrap_or}
 use Rattle.std.specs.Option.{option_or}
-use Rattle.base.specs.declared.controller.entry.Entry.{Entry}
-use Rattle.base.specs.declared.controller.entry.Entry.TheVariants.{Blank}
+use Rattle.base.specs.declared.controller.entry.CellEntry.{CellEntry}
+use Rattle.base.specs.declared.controller.entry.CellEntry.TheVariants.{Blank}
 use Rattle.base.specs.declared.controller.entry.Change.{Change}
 
 -- the rows of a table's cells
 abbrev pub Cells : Type 0 → Type 0 → Type 0
-Cells S A = List (List (Entry S A))
+Cells S A = List (List (CellEntry S A))
 
 -- the entry in the cell of a state and an event, where each state has the number of a row and each event that of a column
-abbrev pub cell_of : {S E A : Type 0} → (S → ℕ) → (E → ℕ) → Cells S A → S → E → Entry S A
+abbrev pub cell_of : {S E A : Type 0} → (S → ℕ) → (E → ℕ) → Cells S A → S → E → CellEntry S A
 cell_of row column cells state event = slice_index_or (slice_index_or cells (row state) []) (column event) Blank
 
 -- these cells with another entry in the cell of a state and an event
-abbrev pub replaced : {S E A : Type 0} → (S → ℕ) → (E → ℕ) → Cells S A → S → E → Entry S A → Cells S A
+abbrev pub replaced : {S E A : Type 0} → (S → ℕ) → (E → ℕ) → Cells S A → S → E → CellEntry S A → Cells S A
 replaced row column cells state event entry =
     slice_set cells (row state) (slice_set (slice_index_or cells (row state) []) (column event) entry)
 
@@ -34,11 +34,11 @@ abbrev pub is_of : {S E A : Type 0} → (S → ℕ) → (E → ℕ) → Change S
 is_of row column change state event = (row change.state == row state) && (column change.event == column event)
 
 -- the entry that a change gives the cell of this state and this event, if it is of that cell
-abbrev pub entry_given : {S E A : Type 0} → (S → ℕ) → (E → ℕ) → Change S E A → S → E → Option (Entry S A)
+abbrev pub entry_given : {S E A : Type 0} → (S → ℕ) → (E → ℕ) → Change S E A → S → E → Option (CellEntry S A)
 entry_given row column change state event = if is_of row column change state event then Some change.entry else None
 
 -- the entry that the last change of this state and this event gives, if there is such a change
-abbrev pub last_entry : {S E A : Type 0} → (S → ℕ) → (E → ℕ) → List (Change S E A) → S → E → Option (Entry S A)
+abbrev pub last_entry : {S E A : Type 0} → (S → ℕ) → (E → ℕ) → List (Change S E A) → S → E → Option (CellEntry S A)
 last_entry row column [] state event = None
 last_entry row column (change ∷ later) state event =
     option_or (last_entry row column later state event) (entry_given row column change state event)

@@ -1,30 +1,30 @@
 -- How entries of a table and changes of its cells are spelled, and when two entries are the same.
 use Rattle.std.specs.Prelude.{◌≡◌, ◌≢◌, ℕ, ◌≤◌, ⊤, Bool, true, false, ◌==◌, ◌&&◌, List, [], ◌∷◌, codes, length, map}
-use Rattle.base.specs.declared.controller.entry.Entry.{Entry}
-use Rattle.base.specs.declared.controller.entry.Entry.TheVariants.{Blank, Stall, Act}
+use Rattle.base.specs.declared.controller.entry.CellEntry.{CellEntry}
+use Rattle.base.specs.declared.controller.entry.CellEntry.TheVariants.{Blank, Stall, Act}
 use Rattle.base.specs.declared.controller.entry.Change.{Change}
 use Rattle.base.specs.declared.controller.entry.Side.{Side}
 use Rattle.base.specs.declared.controller.entry.Side.TheVariants.{Cache, Directory}
 
 -- the words that spell an entry
-abbrev pub entry_words : {S A : Type 0} → (S → List ℕ) → (A → List ℕ) → Entry S A → List (List ℕ)
+abbrev pub entry_words : {S A : Type 0} → (S → List ℕ) → (A → List ℕ) → CellEntry S A → List (List ℕ)
 entry_words state action Blank = codes "blank" ∷ []
 entry_words state action Stall = codes "stall" ∷ []
 entry_words state action (Act next actions) = codes "act" ∷ state next ∷ map action actions
 
 -- what is done, in order: nothing where there is no rule or the event waits
-abbrev pub actions_of : {S A : Type 0} → Entry S A → List A
+abbrev pub actions_of : {S A : Type 0} → CellEntry S A → List A
 actions_of (Act next actions) = actions
 actions_of other = []
 
 -- an entry has at most eight actions
-abbrev pub HasFewActions : {S A : Type 0} → Entry S A → Type 0
+abbrev pub HasFewActions : {S A : Type 0} → CellEntry S A → Type 0
 HasFewActions (Act next actions) = length actions ≤ 8
 HasFewActions other = ⊤
 
 -- these words spell no entry
 abbrev pub IsNoEntry : {S A : Type 0} → (S → List ℕ) → (A → List ℕ) → List (List ℕ) → Type 0
-IsNoEntry {S} {A} state action line = (entry : Entry S A) → HasFewActions entry → line ≢ entry_words state action entry
+IsNoEntry {S} {A} state action line = (entry : CellEntry S A) → HasFewActions entry → line ≢ entry_words state action entry
 
 -- the word for a side
 abbrev pub side_word : Side → List ℕ
@@ -53,7 +53,7 @@ same_list number (a ∷ later) (b ∷ others) = (number a == number b) && same_l
 same_list number one other = false
 
 -- whether two entries are the same: both blank, both a stall, or the same next state and the same actions
-abbrev pub same_entry : {S A : Type 0} → (S → ℕ) → (A → ℕ) → Entry S A → Entry S A → Bool
+abbrev pub same_entry : {S A : Type 0} → (S → ℕ) → (A → ℕ) → CellEntry S A → CellEntry S A → Bool
 same_entry state action Blank Blank = true
 same_entry state action Stall Stall = true
 same_entry state action (Act next actions) (Act other others) = (state next == state other) && same_list action actions others

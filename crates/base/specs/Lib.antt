@@ -1,4 +1,3 @@
-pub use Rattle.devices.specs.Ends
 pub mod Extent
 pub mod Spelling
 pub mod Protocols
@@ -6,3 +5,5 @@ pub mod Cells
 pub mod Entries
 pub mod inner
 pub mod Steps
+pub mod Ends
+pub mod Words

@@ -1,4 +1,4 @@
-pub use Rattle.words.specs.Words.{words, spaced, joined, IsSpelled, IsNoPair}
+use Rattle.base.specs.Words.{words, IsSpelled}
 use Rattle.std.specs.Prelude.{◌≡◌, ◌≢◌, ℕ, ◌<◌, ◌^◌, ⊤, Bool, ◌&&◌, leb, ltb, List, [], ◌∷◌, ◌++◌, Option, Some, None, codes, length}
 use Rattle.std.specs.Prelude.{if◌then◌else◌, option_and_then}
 use Rattle.std.specs.List.{find, list_all}

@@ -7,7 +7,7 @@ mod protocol;
 mod spelling;
 
 pub use actions::{Actions, MOST_ACTIONS};
-pub use entry::{Change, Entry, Side, last_change_holds};
+pub use entry::{CellEntry, Change, Side, last_change_holds};
 pub use listed::{Listed, named, named_of};
 pub use protocol::{Protocol, a_name_is_of_one_protocol};
 pub use spelling::spells_one_change;

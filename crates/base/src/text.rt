@@ -5,6 +5,6 @@ mod outcomes;
 mod short;
 mod steps;
 
+pub use crate::words::{cut, number_of, small_number_of};
 pub use short::Text;
 pub use steps::spells_one_step;
-pub use words::{cut, number_of, small_number_of};

@@ -7,11 +7,12 @@ use Rattle.network.specs.Traffic.{all_sent}
 use Rattle.cache_table.specs.declared.actions.CacheAction.{CacheAction}
 use Rattle.directory_table.specs.declared.actions.DirectoryAction.{DirectoryAction}
 use Rattle.directory_table.specs.declared.state.DirectoryState.{DirectoryState}
-use Rattle.cache_line.specs.declared.line.Line.{Line}
-use Rattle.cache_line.specs.declared.line.LineInput.{LineInput}
-use Rattle.block_home.specs.declared.home.HomeInput.{HomeInput}
+use Rattle.control.specs.declared.line.Line.{Line}
+use Rattle.control.specs.declared.line.LineInput.{LineInput}
+use Rattle.control.specs.declared.home.HomeInput.{HomeInput}
 use Rattle.control.specs.LineEffect.{line_sends, taken_in, requestor_of, is_reader, is_writer}
-use Rattle.control.specs.HomeEffect.{home_sends, home_after, sender_of, brought_by, IsBelow}
+use Rattle.control.specs.HomeEffect.{home_sends, home_after, sender_of, brought_by}
+use Rattle.control.specs.Homes.{IsBelow}
 use Rattle.machine.specs.declared.decision.Origin.{Origin}
 use Rattle.machine.specs.Block.{BlockState, IsBlockAmong}
 use Rattle.machine.specs.Transition.{without}

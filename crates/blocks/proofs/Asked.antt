@@ -12,8 +12,8 @@ use Rattle.network.proofs.Sending.{all_sent-append}
 use Rattle.cache_table.specs.declared.actions.CacheAction.{CacheAction}
 use Rattle.cache_table.specs.declared.actions.CacheAction.TheVariants as action
 use Rattle.control.specs.LineEffect.{line_message, line_messages, line_sends}
-use Rattle.block_home.specs.declared.home.HomeInput.TheVariants as home_input
-use Rattle.both_tables.specs.Tables.{Tables}
+use Rattle.control.specs.declared.home.HomeInput.TheVariants as home_input
+use Rattle.tables.specs.Tables.{Tables}
 use Rattle.machine.specs.Block.{BlockState}
 use Rattle.machine.specs.Transition.{Transition, carried_out, without}
 use Rattle.machine.specs.declared.decision.Decision.{Decision}

@@ -1,7 +1,7 @@
 -- A copy of a block keeps the lines of what it was copied from.
 use Rattle.std.proofs.Common.{◌≡◌, List, [], ◌∷◌, Option, Some, None, refl, ap, sym, ◌∙◌, map}
 use Rattle.std.specs.Option.{option_map}
-use Rattle.cache_line.specs.declared.line.Line.{Line}
+use Rattle.control.specs.declared.line.Line.{Line}
 
 lines-seen : (items : List (Option Line)) → map (option_map (λ (line : Line). line)) items ≡ items
 lines-seen [] = refl

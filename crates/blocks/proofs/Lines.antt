@@ -1,7 +1,7 @@
 -- Lines of which only some are kept.
 use Rattle.std.proofs.Common.{◌≡◌, ℕ, List, [], ◌∷◌, Option, Some, None, false, refl, ap, sym, ◌∙◌, zero, suc}
 use Rattle.std.proofs.Common.{length, get_or, replicate, slice_get, true≢false}
-use Rattle.cache_line.specs.declared.line.Line.{Line}
+use Rattle.control.specs.declared.line.Line.{Line}
 use Rattle.control.specs.LineEffect.{opened_line}
 use Rattle.blocks.specs.View.{is_invalid, line_or}
 use Rattle.blocks.specs.inner.Lined.{lines_of, kept_lines}

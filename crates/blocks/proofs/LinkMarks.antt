@@ -2,8 +2,8 @@
 use Rattle.std.proofs.Common.{◌≡◌, ◌≢◌, ℕ, ◌+◌, List, [], ◌∷◌, length, get_or, map, slice_set, refl, sym, ap, ◌∙◌, zero, suc, arith, add-zero}
 use Rattle.network.specs.declared.message.Forward.{Forward}
 use Rattle.cache_table.specs.Table as cache_table
-use Rattle.cache_line.specs.declared.line.Line.{Line}
-use Rattle.cache_line.specs.declared.line.LineInput.TheVariants as line_input
+use Rattle.control.specs.declared.line.Line.{Line}
+use Rattle.control.specs.declared.line.LineInput.TheVariants as line_input
 use Rattle.machine.proofs.Places.{slice_get-set_other}
 use Rattle.blocks.specs.Marking.{line_stalls, link_stalls, links_stall}
 

@@ -17,7 +17,7 @@ use Rattle.cache_table.specs.declared.actions.CacheAction.{CacheAction}
 use Rattle.cache_table.specs.declared.actions.CacheAction.TheVariants as line_action
 use Rattle.directory_table.specs.declared.actions.DirectoryAction.{DirectoryAction}
 use Rattle.directory_table.specs.declared.actions.DirectoryAction.TheVariants as action
-use Rattle.block_home.specs.declared.home.Home.{Home}
+use Rattle.control.specs.declared.home.Home.{Home}
 use Rattle.control.specs.HomeEffect.{home_message, home_messages, home_changed, home_moved, invalidation}
 use Rattle.control.specs.HomeEffect.{invalidations, link_message, owner_message, with_owner, with_sharer}
 use Rattle.control.specs.LineEffect.{line_message, line_messages}

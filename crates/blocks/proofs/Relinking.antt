@@ -11,8 +11,8 @@ use Rattle.network.proofs.Sending.{all_sent-append}
 use Rattle.cache_table.specs.declared.actions.CacheAction.{CacheAction}
 use Rattle.cache_table.specs.declared.actions.CacheAction.TheVariants as action
 use Rattle.control.specs.LineEffect.{line_message, line_messages}
-use Rattle.cache_line.specs.declared.line.Line.{Line}
-use Rattle.both_tables.specs.Tables.{Tables}
+use Rattle.control.specs.declared.line.Line.{Line}
+use Rattle.tables.specs.Tables.{Tables}
 use Rattle.blocks.specs.Marking.{link_stalls, links_stall, marks_of}
 use Rattle.blocks.specs.inner.Linking.{AreRight, IsAtOwn, IsRelinked}
 use Rattle.std.specs.Option.{IfSome}

@@ -9,14 +9,15 @@ use Rattle.network.specs.declared.message.Forward.{Forward}
 use Rattle.network.specs.declared.message.Message.{Message}
 use Rattle.network.specs.declared.message.Message.TheVariants as message
 use Rattle.network.specs.Room.{forwards_in, one_if}
-use Rattle.network.specs.Traffic.{Traffic, link, sent, all_sent}
+use Rattle.network.specs.Traffic.{Traffic, link, sent, all_sent, message_count}
 use Rattle.network.proofs.Sending.{forwards_in-append, links-sent}
 use Rattle.cache_table.specs.declared.actions.CacheAction.{CacheAction}
 use Rattle.cache_table.specs.declared.actions.CacheAction.TheVariants as line_action
 use Rattle.directory_table.specs.declared.actions.DirectoryAction.{DirectoryAction}
-use Rattle.block_home.specs.declared.home.Home.{Home}
+use Rattle.control.specs.declared.home.Home.{Home}
 use Rattle.control.specs.LineEffect.{line_message, line_messages, taken_in, requestor_of}
-use Rattle.control.specs.HomeEffect.{home_messages, sender_of, brought_by, IsBelow, NamesBelow}
+use Rattle.control.specs.HomeEffect.{home_messages, sender_of, brought_by}
+use Rattle.control.specs.Homes.{IsBelow, NamesBelow}
 use Rattle.control.proofs.HomeCounts.{eqb-self, forwards-to, no-forwards, nothing-sent}
 use Rattle.control.proofs.HomeSends.{names-among}
 use Rattle.machine.specs.declared.decision.Decision.{Decision}
@@ -24,7 +25,6 @@ use Rattle.machine.specs.declared.decision.Decision.TheVariants.{Refused, AtLine
 use Rattle.machine.specs.Block.{BlockState, IsBlockAmong}
 use Rattle.machine.specs.Transition.{carried_out, messages_of, without, Fits}
 use Rattle.machine.proofs.Whole.{links-without}
-use Rattle.network.specs.Traffic.{message_count}
 
 -- ---- each message that is sent is counted, where each forward has its link
 

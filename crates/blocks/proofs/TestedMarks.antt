@@ -5,7 +5,7 @@ use Rattle.network.specs.declared.message.Forward.{Forward}
 use Rattle.network.specs.Marks.{Marks, link_marks}
 use Rattle.network.specs.Traffic.{Traffic, IsNextWaiting, NoneWaits, is_nil, link}
 use Rattle.cache_table.specs.Table as cache_table
-use Rattle.cache_line.specs.declared.line.Line.{Line}
+use Rattle.control.specs.declared.line.Line.{Line}
 use Rattle.network.proofs.Written.{written, written-all, written-next, written-skipped}
 use Rattle.blocks.specs.Marking.{link_stalls, links_stall}
 use Rattle.blocks.proofs.LinkMarks.{links_stall-at, links_stall-length}

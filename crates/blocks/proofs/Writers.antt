@@ -4,7 +4,7 @@ use Rattle.std.proofs.Common.{true, false, if◌then◌else◌, refl, ap, sym, �
 use Rattle.std.proofs.Common.{get_or, replicate, true≢false, ◌≤◌, count_by, inl, inr}
 use Rattle.std.proofs.lemmas.Bool.{cases_Bool}
 use Rattle.std.proofs.lemmas.List.Sums.{sum_by-cons}
-use Rattle.cache_line.specs.declared.line.Line.{Line}
+use Rattle.control.specs.declared.line.Line.{Line}
 use Rattle.control.specs.LineEffect.{is_writer, opened_line}
 use Rattle.rows.specs.Flags.{IsFirstFrom, NoneFrom}
 use Rattle.blocks.specs.Looks.{writer_from, writer_in}

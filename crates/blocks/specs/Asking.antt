@@ -4,7 +4,7 @@ use Rattle.base.specs.declared.step.Ask.{Ask}
 use Rattle.base.specs.declared.step.Ask.TheVariants.{Load, Store, Replace}
 use Rattle.cache_table.specs.Table as cache_table
 use Rattle.cache_table.specs.declared.state.CacheState.{CacheState}
-use Rattle.control.specs.Events.{ask_event}
+use Rattle.control.specs.LineEvents.{ask_event}
 use Rattle.machine.specs.Transition.{is_idle}
 use Rattle.blocks.specs.declared.block.asking.HeldAsks.{HeldAsks}
 use Rattle.blocks.specs.Marking.{is_stall}

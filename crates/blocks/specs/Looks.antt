@@ -16,9 +16,9 @@ use Rattle.network.specs.declared.message.Response.TheVariants.{Data, InvAck, Da
 use Rattle.network.specs.declared.message.Message.{Message}
 use Rattle.network.specs.declared.message.Message.TheVariants as message
 use Rattle.network.specs.Traffic.{Traffic, link}
-use Rattle.cache_line.specs.declared.line.Line.{Line}
+use Rattle.control.specs.declared.line.Line.{Line}
 use Rattle.control.specs.LineEffect.{is_writer}
-use Rattle.both_tables.specs.Tables.{Tables}
+use Rattle.tables.specs.Tables.{Tables}
 use Rattle.machine.specs.Block.{BlockState}
 use Rattle.machine.specs.Transition.{transition}
 

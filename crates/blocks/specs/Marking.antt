@@ -1,8 +1,7 @@
 -- Which messages on their way are held by a stall: their marks, and how many have none.
-use Rattle.std.specs.Prelude.{ℕ, ◌+◌, List, [], ◌∷◌, Option, Some, None}
-use Rattle.std.specs.Prelude.{Bool, true, false, if◌then◌else◌, map, slice_get}
-use Rattle.base.specs.declared.controller.entry.Entry.{Entry}
-use Rattle.base.specs.declared.controller.entry.Entry.TheVariants as table_entry
+use Rattle.std.specs.Prelude.{ℕ, ◌+◌, List, [], ◌∷◌, Option, Some, None, Bool, true, false, if◌then◌else◌, map, slice_get}
+use Rattle.base.specs.declared.controller.entry.CellEntry.{CellEntry}
+use Rattle.base.specs.declared.controller.entry.CellEntry.TheVariants as table_entry
 use Rattle.base.specs.declared.ids.Place.TheVariants.{Dir, Cache}
 use Rattle.network.specs.declared.message.Forward.{Forward}
 use Rattle.network.specs.declared.message.Response.{Response}
@@ -10,20 +9,21 @@ use Rattle.network.specs.declared.message.Response.TheVariants.{Data, InvAck, Da
 use Rattle.network.specs.Marks.{Marks, unmarked_count, unmarked_heads_count}
 use Rattle.cache_table.specs.Table as cache_table
 use Rattle.directory_table.specs.Table as directory_table
-use Rattle.cache_line.specs.declared.line.Line.{Line}
-use Rattle.cache_line.specs.declared.line.LineInput.{LineInput}
-use Rattle.cache_line.specs.declared.line.LineInput.TheVariants as line_input
-use Rattle.block_home.specs.declared.home.Home.{Home}
-use Rattle.block_home.specs.declared.home.HomeInput.{HomeInput}
-use Rattle.block_home.specs.declared.home.HomeInput.TheVariants as home_input
-use Rattle.control.specs.Events.{event_at_line, event_at_home}
+use Rattle.control.specs.declared.line.Line.{Line}
+use Rattle.control.specs.declared.line.LineInput.{LineInput}
+use Rattle.control.specs.declared.line.LineInput.TheVariants as line_input
+use Rattle.control.specs.declared.home.Home.{Home}
+use Rattle.control.specs.declared.home.HomeInput.{HomeInput}
+use Rattle.control.specs.declared.home.HomeInput.TheVariants as home_input
+use Rattle.control.specs.LineEvents.{event_at_line}
+use Rattle.control.specs.HomeEvents.{event_at_home}
 use Rattle.base.specs.declared.step.Ask.{Ask}
-use Rattle.both_tables.specs.Tables.{Tables}
+use Rattle.tables.specs.Tables.{Tables}
 use Rattle.machine.specs.Block.{BlockState}
 use Rattle.machine.specs.Transition.{is_idle}
 
 -- whether a cell is a stall
-abbrev pub is_stall : {S A : Type 0} → Entry S A → Bool
+abbrev pub is_stall : {S A : Type 0} → CellEntry S A → Bool
 is_stall table_entry.Stall = true
 is_stall other = false
 

@@ -8,8 +8,8 @@ use Rattle.cache_table.specs.declared.event.CacheEvent.TheVariants as event
 use Rattle.directory_table.specs.Table as directory_table
 use Rattle.directory_table.specs.declared.state.DirectoryState.{DirectoryState}
 use Rattle.directory_table.specs.declared.event.DirectoryEvent.{DirectoryEvent}
-use Rattle.control.specs.Events.{forward_event}
-use Rattle.both_tables.specs.Tables.{Tables}
+use Rattle.control.specs.LineEvents.{forward_event}
+use Rattle.tables.specs.Tables.{Tables}
 use Rattle.machine.specs.Block.{BlockState}
 use Rattle.blocks.specs.Marking.{is_stall, response_stalls}
 

@@ -3,7 +3,7 @@ use Rattle.std.specs.Prelude.{◌≡◌, ◌≤◌, ◌⊎◌, [], false, length
 use Rattle.base.specs.declared.step.Outcome.{Outcome}
 use Rattle.base.specs.declared.step.Step.{Step}
 use Rattle.network.specs.Traffic.{message_count}
-use Rattle.both_tables.specs.Tables.{Tables}
+use Rattle.tables.specs.Tables.{Tables}
 use Rattle.machine.specs.declared.decision.Decision.{Decision}
 use Rattle.machine.specs.declared.made.Made.{Made}
 use Rattle.machine.specs.Block.{BlockState}
@@ -13,7 +13,7 @@ use Rattle.blocks.specs.Marking.{marks_of}
 use Rattle.blocks.specs.View.{BlockView, HasSpaceFor, Space, acts, lines_after, wakes_line}
 
 -- a block has made a step, which came to this: all marks are right behind it, and what it sent is on the wires
-pub record Makes (tables : Tables) (old : BlockView) (step : Step) (made : Made) (new : BlockView) : Type 0 where
+pub record MakesStep (tables : Tables) (old : BlockView) (step : Step) (made : Made) (new : BlockView) : Type 0 where
   pub told : made ≡ made_at tables step old.state
   pub state : new.state ≡ (transition tables step old.state).block
   pub marks : new.marks ≡ marks_of tables new.state
@@ -27,7 +27,7 @@ pub record Foresees (tables : Tables) (old : BlockView) (step : Step) (what : Ou
   pub room : HasSpaceFor (decision_of tables step old.state) old.state new.space
 
 -- a block is as it was, but that it may have room for what was decided: none more where no cell acts
-pub record IsAsBefore (d : Decision) (old new : BlockView) : Type 0 where
+pub record IsBlockAsBefore (d : Decision) (old new : BlockView) : Type 0 where
   pub state : new.state ≡ old.state
   pub marks : new.marks ≡ old.marks
   pub lines : new.space.lines ≡ old.space.lines
@@ -40,5 +40,5 @@ pub record Stays (tables : Tables) (old new : BlockView) : Type 0 where
   pub lines : new.space.lines ≡ old.space.lines
 
 -- what is decided wants no memory: there is room for it, or it sends nothing and is no ask that acts at a line in I
-abbrev pub WantsNone : Decision → BlockState → Space → Type 0
-WantsNone d b space = HasSpaceFor d b space ⊎ ((messages_of d b ≡ []) × (wakes_line d ≡ false))
+abbrev pub BlockNeedsNoMemory : Decision → BlockState → Space → Type 0
+BlockNeedsNoMemory d b space = HasSpaceFor d b space ⊎ ((messages_of d b ≡ []) × (wakes_line d ≡ false))

@@ -1,7 +1,7 @@
 -- What a test of a block's messages finds.
 use Rattle.std.specs.Prelude.{◌≡◌}
 use Rattle.machine.specs.Block.{BlockState}
-use Rattle.both_tables.specs.Tables.{Tables}
+use Rattle.tables.specs.Tables.{Tables}
 use Rattle.blocks.specs.Marking.{free_requests, free_heads, free_responses}
 use Rattle.network.specs.Traffic.{message_count}
 use Rattle.blocks.specs.declared.block.testing.Tested.{Tested}

@@ -4,7 +4,7 @@ use Rattle.network.specs.Marks.{Marks}
 use Rattle.network.specs.Room.{Room, HasRoomFor}
 use Rattle.cache_table.specs.declared.state.CacheState.{CacheState}
 use Rattle.cache_table.specs.declared.state.CacheState.TheVariants as state
-use Rattle.cache_line.specs.declared.line.Line.{Line}
+use Rattle.control.specs.declared.line.Line.{Line}
 use Rattle.control.specs.LineEffect.{opened_line}
 use Rattle.machine.specs.declared.decision.Origin.TheVariants as origin
 use Rattle.machine.specs.declared.decision.Decision.{Decision}

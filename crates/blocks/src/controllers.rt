@@ -10,10 +10,10 @@ ghost use Rattle.blocks.specs.inner.Told.{AreHeldByState};
 
 use crate::block::{HeldAsks, forwards_pass, held_asks_in, is_clear, responses_pass};
 use base::controller::Listed;
-use both_tables::Tables;
 use cache_table::CacheState;
 use directory_table::DirectoryState;
 use std::marker::Model;
+use tables::Tables;
 
 /// The controllers of a world: their tables, and what these stall on.
 #[derive(Drop)]
@@ -30,7 +30,7 @@ pub struct Controllers {
 }
 
 impl Model for Controllers {
-    ghost use Rattle.both_tables.specs.Tables.{Tables};
+    ghost use Rattle.tables.specs.Tables.{Tables};
     ghost use Rattle.blocks.specs.inner.Told.{AreTold};
 
     ghost Value = { Tables };

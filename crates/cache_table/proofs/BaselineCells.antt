@@ -4,7 +4,7 @@ use Rattle.cache_table.specs.declared.state.CacheState.TheVariants.{I, IsD, ImAd
 use Rattle.cache_table.specs.declared.event.CacheEvent.{CacheEvent}
 use Rattle.cache_table.specs.declared.event.CacheEvent.TheVariants as event
 use Rattle.base.specs.declared.controller.protocol.Protocol.{Protocol}
-use Rattle.base.specs.declared.controller.entry.Entry.TheVariants.{Blank}
+use Rattle.base.specs.declared.controller.entry.CellEntry.TheVariants.{Blank}
 use Rattle.cache_table.specs.Table.{CacheEntry, cell, event_number, state_number}
 use Rattle.cache_table.specs.Baseline.{baseline_cells, baseline_entry, baseline_row, all_events}
 

@@ -1,7 +1,7 @@
 use Rattle.std.specs.Prelude.{List, [], ◌∷◌, map}
 use Rattle.base.specs.declared.controller.protocol.Protocol.{Protocol}
 use Rattle.base.specs.declared.controller.protocol.Protocol.TheVariants.{Msi, MsiE}
-use Rattle.base.specs.declared.controller.entry.Entry.TheVariants.{Blank, Stall, Act}
+use Rattle.base.specs.declared.controller.entry.CellEntry.TheVariants.{Blank, Stall, Act}
 use Rattle.cache_table.specs.Table.{Cells, CacheEntry}
 use Rattle.cache_table.specs.declared.state.CacheState.{CacheState}
 use Rattle.cache_table.specs.declared.state.CacheState.TheVariants.{I, IsD, ImAd, ImA, S, SmAd, SmA, M, MiA, SiA, IiA, E}

@@ -12,6 +12,6 @@ IsKeptAt protocol cells state event = (cell cells state event ≡ baseline_entry
     (has_cell protocol state event (cell cells state event) ≡ true)
 
 -- there is a cell for each state and each event, and each keeps to the protocol
-pub record IsTable (protocol : Protocol) (cells : Cells) : Type 0 where
+pub record IsCacheTable (protocol : Protocol) (cells : Cells) : Type 0 where
   pub whole : IsWhole cells
   pub keeps : (state : CacheState) (event : CacheEvent) → IsKeptAt protocol cells state event

@@ -2,8 +2,8 @@
 use Rattle.std.specs.Prelude.{ℕ, List, [], ◌∷◌, Bool, true, false, ◌&&◌, if◌then◌else◌}
 use Rattle.base.specs.declared.controller.protocol.Protocol.{Protocol}
 use Rattle.base.specs.declared.controller.protocol.Protocol.TheVariants.{Msi}
-use Rattle.base.specs.declared.controller.entry.Entry.{Entry}
-use Rattle.base.specs.declared.controller.entry.Entry.TheVariants.{Act}
+use Rattle.base.specs.declared.controller.entry.CellEntry.{CellEntry}
+use Rattle.base.specs.declared.controller.entry.CellEntry.TheVariants.{Act}
 use Rattle.base.specs.declared.controller.entry.Change.{Change}
 use Rattle.base.specs.Cells as cells
 use Rattle.cache_table.specs.declared.state.CacheState.{CacheState}
@@ -46,7 +46,7 @@ event_number DataDirExcl = 12
 
 -- what a cell of a cache's table holds
 abbrev pub CacheEntry : Type 0
-CacheEntry = Entry CacheState CacheAction
+CacheEntry = CellEntry CacheState CacheAction
 
 -- an entry that one cell is to have
 abbrev pub CacheChange : Type 0
@@ -92,16 +92,16 @@ abbrev pub has_cell : Protocol → CacheState → CacheEvent → CacheEntry → 
 has_cell protocol state event entry = has_state protocol state && has_event protocol event && has_entry protocol entry
 
 -- a table as contracts see it: its protocol, and its cells
-pub record Table : Type 0 where
+pub record CacheTableView : Type 0 where
   pub protocol : Protocol
   pub cells : Cells
 
 -- this table with another entry in a cell; where its protocol hasn't got what is named, it stays as it is
-abbrev pub with_entry : Table → CacheState → CacheEvent → CacheEntry → Table
+abbrev pub with_entry : CacheTableView → CacheState → CacheEvent → CacheEntry → CacheTableView
 with_entry table state event entry =
     if has_cell table.protocol state event entry then record table { cells = with_cell table.cells state event entry } else table
 
 -- this table after these changes, made in order
-abbrev pub laid_over : List CacheChange → Table → Table
+abbrev pub laid_over : List CacheChange → CacheTableView → CacheTableView
 laid_over [] table = table
 laid_over (c ∷ changes) table = laid_over changes (with_entry table c.state c.event c.entry)

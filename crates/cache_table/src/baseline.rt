@@ -5,7 +5,7 @@ ghost use Rattle.cache_table.specs.Baseline.{baseline_cells, baseline_row};
 use crate::actions::CacheAction::{DataDir, DataReq, GetM, GetS, InvAck, PutM, PutS};
 use crate::state::CacheState::{self, E, I, IiA, ImA, ImAd, IsD, M, MiA, S, SiA, SmA, SmAd};
 use crate::table::CacheEntry;
-use base::controller::Entry::{Blank, Stall};
+use base::controller::CellEntry::{Blank, Stall};
 use base::controller::Protocol;
 
 /// The rows of a protocol's baseline (after Primer, section 8.2), each with its cells in the order of the events.

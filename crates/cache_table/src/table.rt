@@ -2,20 +2,20 @@ ghost use Rattle.std.specs.Prelude.{◌≡◌, true};
 ghost use Rattle.base.specs.declared.controller.protocol.Protocol.TheVariants as Protocol;
 ghost use Rattle.cache_table.specs.Table.{cell, laid_over, with_cell, with_entry, has_entry, has_cell, IsWhole};
 ghost use Rattle.cache_table.specs.Baseline.{baseline_cells, baseline_entry};
-ghost use Rattle.cache_table.specs.Keeping.{IsTable};
+ghost use Rattle.cache_table.specs.Keeping.{IsCacheTable};
 
 use crate::actions::CacheAction;
 use crate::baseline::baseline_rows;
 use crate::event::CacheEvent;
 use crate::state::CacheState;
-use base::controller::{Actions, Change, Entry, Listed, Protocol};
+use base::controller::{Actions, CellEntry, Change, Listed, Protocol};
 use std::marker::Model;
 
 /// What a cache's controller does in a cell, in order.
 pub type CacheActions = Actions<CacheAction>;
 
 /// One cell of a cache's table: what the controller does in a state on an event.
-pub type CacheEntry = Entry<CacheState, CacheAction>;
+pub type CacheEntry = CellEntry<CacheState, CacheAction>;
 
 /// An entry that one cell of a cache's table is to have.
 pub type CacheChange = Change<CacheState, CacheEvent, CacheAction>;
@@ -30,14 +30,14 @@ pub struct CacheTable {
 }
 
 impl Model for CacheTable {
-    ghost use Rattle.cache_table.specs.Keeping.{IsTable};
-    ghost use Rattle.cache_table.specs.Table.{Table};
+    ghost use Rattle.cache_table.specs.Keeping.{IsCacheTable};
+    ghost use Rattle.cache_table.specs.Table.{CacheTableView};
 
-    ghost Value = { Table };
+    ghost Value = { CacheTableView };
 
     ghost view = { λ t. record { protocol = t.protocol; cells = t.cells } };
 
-    ghost invariant = { λ t. IsTable t.protocol t.cells };
+    ghost invariant = { λ t. IsCacheTable t.protocol t.cells };
 
     ghost inverse = { λ t. record { protocol = t.protocol; cells = t.cells } };
 }
@@ -47,7 +47,7 @@ fn knows_entry(protocol: Protocol, entry: &CacheEntry) -> bool
     ensures { result ≡ has_entry protocol entry.now }
 {
     match entry {
-        Entry::Act { next, .. } => next.is_in(protocol),
+        CellEntry::Act { next, .. } => next.is_in(protocol),
         _ => true,
     }
 }
@@ -95,7 +95,7 @@ impl CacheTable {
     pub fn entry(&self, state: CacheState, event: CacheEvent) -> CacheEntry
         ensures entry { result ≡ cell self.now.cells state event }
         ensures whole { IsWhole self.now.cells }
-        ensures table { IsTable self.now.protocol self.now.cells }
+        ensures table { IsCacheTable self.now.protocol self.now.cells }
     {
         let row = &self.cells[state.number()];
         row[event.number()]

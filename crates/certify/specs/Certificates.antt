@@ -1,18 +1,17 @@
 -- What is answered of changed tables.
 use Rattle.std.specs.Prelude.{◌≡◌, ◌⊎◌, ◌<◌, ℕ, List, length, Some, slice_get}
-use Rattle.base.specs.declared.controller.entry.Entry.TheVariants.{Blank, Stall}
+use Rattle.base.specs.declared.controller.entry.CellEntry.TheVariants.{Blank, Stall}
 use Rattle.cache_table.specs.Table as cache_table
 use Rattle.directory_table.specs.Table as directory_table
-use Rattle.both_tables.specs.CellPlaces.{all_places}
-use Rattle.both_tables.specs.Tables.{Tables, baseline_of}
-use Rattle.both_tables.specs.declared.cell_places.CellPlace.{CellPlace}
-use Rattle.both_tables.specs.declared.cell_places.CellPlace.TheVariants.{Cache, Directory}
+use Rattle.tables.specs.CellPlaces.{all_places}
+use Rattle.tables.specs.Tables.{Tables, baseline_of}
+use Rattle.tables.specs.declared.cell_places.CellPlace.{CellPlace}
+use Rattle.tables.specs.declared.cell_places.CellPlace.TheVariants.{Cache, Directory}
 use Rattle.machine.specs.Going.{AreNeverStuck, KeepsGoing, MayWait, MayWaitAtHome, IsSettled}
 use Rattle.machine.specs.Restraint.{AreRestrained}
 use Rattle.pairs.specs.declared.pair.Pair.{Pair}
 use Rattle.closing.specs.Blamed.{HasFlow}
 use Rattle.closing.specs.Closed.{Closed}
-use Rattle.closing.specs.declared.deciding.Flow.{Flow}
 use Rattle.closing.specs.declared.deciding.Flow.TheVariants as by_pairs
 use Rattle.certify.specs.Standings.{IsAdmitted}
 use Rattle.certify.specs.declared.certifying.Certificate.{Certificate}

@@ -3,8 +3,8 @@
 ghost use Rattle.std.specs.Prelude.{◌≡◌, ◌↔◌, ℕ, List, length, IfNone, IfSome, MatchBool};
 ghost use Rattle.base.specs.Extent.{Extent, IsWithinLimits};
 ghost use Rattle.base.specs.declared.step.Step.{Step};
-ghost use Rattle.both_tables.specs.Tables.{baseline_of};
-ghost use Rattle.both_tables.specs.declared.cell_places.CellPlace.{CellPlace};
+ghost use Rattle.tables.specs.Tables.{baseline_of};
+ghost use Rattle.tables.specs.declared.cell_places.CellPlace.{CellPlace};
 ghost use Rattle.machine.specs.Coherence.{Met, Safe};
 ghost use Rattle.machine.specs.Going.{KeepsGoing};
 ghost use Rattle.machine.specs.Machine.{after, opened};
@@ -16,11 +16,11 @@ ghost use Rattle.certify.specs.inner.Demands.{Meets};
 
 use crate::going::{holds_ask, is_jam};
 use crate::laws::certified_tables_are_safe;
-use crate::standings::{Standing, standing_of};
-use both_tables::{CELLS, CellPlace, Tables};
+use crate::standings::{Standing, standing_beside};
 use closing::{Flow, Refusal, closed_pairs};
 use machine::restrained_tables_are_safe;
 use std::alloc::Global;
+use tables::{CELLS, CellPlace, Tables};
 
 /// What is proved of changed tables, for any number of caches and blocks and any list of steps. A cell that it names is the
 /// first one of its kind, in the order of [`CellPlace::at`].
@@ -60,15 +60,17 @@ pub fn certify(alloc: Global, tables: &Tables) -> Certificate
 {
     restrained_tables_are_safe();
     certified_tables_are_safe();
-    answer_to(alloc, tables)
+    answer_to(alloc, tables, &Tables::baseline_of(tables.protocol()))
 }
 
-fn answer_to(alloc: Global, tables: &Tables) -> Certificate
+/// The answer, where the protocol's own tables are at hand.
+fn answer_to(alloc: Global, tables: &Tables, own: &Tables) -> Certificate
+    requires { own.now ≡ baseline_of tables.now.protocol }
     ensures { IsCertificate tables.now result }
 {
-    match first_against(tables, Demand::Admission) {
+    match first_against(tables, own, Demand::Admission) {
         Some(cell) => answer_by_pairs(alloc, tables, cell),
-        None => answer_to_restrained(tables),
+        None => answer_to_restrained(tables, own),
     }
 }
 
@@ -82,22 +84,24 @@ fn answer_by_pairs(alloc: Global, tables: &Tables, cell: CellPlace) -> Certifica
     }
 }
 
-fn answer_to_restrained(tables: &Tables) -> Certificate
-    requires { AreRestrained tables.now }
+fn answer_to_restrained(tables: &Tables, own: &Tables) -> Certificate
+    requires own { own.now ≡ baseline_of tables.now.protocol }
+    requires restrained { AreRestrained tables.now }
     ensures { IsCertificate tables.now result }
 {
-    match first_against(tables, Demand::Flow) {
+    match first_against(tables, own, Demand::Flow) {
         Some(cell) => Certificate::MessagesMayGetStuck(cell),
-        None => answer_to_flowing(tables),
+        None => answer_to_flowing(tables, own),
     }
 }
 
-fn answer_to_flowing(tables: &Tables) -> Certificate
+fn answer_to_flowing(tables: &Tables, own: &Tables) -> Certificate
+    requires own { own.now ≡ baseline_of tables.now.protocol }
     requires restrained { AreRestrained tables.now }
     requires going { KeepsGoing tables.now }
     ensures { IsCertificate tables.now result }
 {
-    match first_against(tables, Demand::Service) {
+    match first_against(tables, own, Demand::Service) {
         Some(cell) => Certificate::AsksMayBeHeld(cell),
         None => Certificate::NeverStuck,
     }
@@ -114,25 +118,27 @@ enum Demand {
     Service,
 }
 
-fn first_against(tables: &Tables, demand: Demand) -> Option<CellPlace>
+fn first_against(tables: &Tables, own: &Tables, demand: Demand) -> Option<CellPlace>
+    requires { own.now ≡ baseline_of tables.now.protocol }
     ensures none { IfNone result ((cell : CellPlace) → Meets tables.now demand cell) }
     ensures some { IfSome result (λ cell. IsFirstAgainst (Meets tables.now demand) cell) }
 {
     for number in 0..CELLS {
         let cell = CellPlace::with_number(number);
-        if is_against(tables, demand, cell) {
+        if is_against(tables, own, demand, cell) {
             return Some(cell);
         }
     }
     None
 }
 
-fn is_against(tables: &Tables, demand: Demand, cell: CellPlace) -> bool
+fn is_against(tables: &Tables, own: &Tables, demand: Demand, cell: CellPlace) -> bool
+    requires { own.now ≡ baseline_of tables.now.protocol }
     ensures { MatchBool result (¬ Meets tables.now demand cell) (Meets tables.now demand cell) }
 {
     match demand {
-        Demand::Admission => matches!(standing_of(tables, cell), Standing::Open),
-        Demand::Flow => is_jam(tables, cell),
-        Demand::Service => holds_ask(tables, cell),
+        Demand::Admission => matches!(standing_beside(tables, own, cell), Standing::Open),
+        Demand::Flow => is_jam(tables, own, cell),
+        Demand::Service => holds_ask(tables, own, cell),
     }
 }

@@ -1,10 +1,11 @@
 //! How a cell stands to the protocol's own.
 
+ghost use Rattle.std.specs.Prelude.{◌≡◌};
+ghost use Rattle.tables.specs.Tables.{baseline_of};
 ghost use Rattle.certify.specs.Standings.{IsReason, HasStanding};
 
-use crate::own::{own_home, own_line};
-use base::controller::{Entry, Listed};
-use both_tables::{CellPlace, Tables};
+use base::controller::{CellEntry, Listed};
+use tables::{CellPlace, Tables};
 
 /// Why a cell of changed tables is admitted, which is the first reason that holds, or that it isn't.
 #[derive(Clone, Copy, Debug, PartialEq, Eq)]
@@ -23,27 +24,35 @@ pub enum Standing {
 pub fn standing_of(tables: &Tables, cell: CellPlace) -> Standing
     ensures { HasStanding tables.now cell result }
 {
+    standing_beside(tables, &Tables::baseline_of(tables.protocol()), cell)
+}
+
+/// The same, where the protocol's own tables are at hand.
+pub fn standing_beside(tables: &Tables, own: &Tables, cell: CellPlace) -> Standing
+    requires { own.now ≡ baseline_of tables.now.protocol }
+    ensures { HasStanding tables.now cell result }
+{
     match cell {
         CellPlace::Cache(state, event) => reason(
-            &own_line(tables, state, event),
+            &own.cache.entry(state, event),
             &tables.cache.entry(state, event),
         ),
         CellPlace::Directory(state, event) => reason(
-            &own_home(tables, state, event),
+            &own.directory.entry(state, event),
             &tables.directory.entry(state, event),
         ),
     }
 }
 
-fn reason<S: Listed, A: Listed>(own: &Entry<S, A>, entry: &Entry<S, A>) -> Standing
+fn reason<S: Listed, A: Listed>(own: &CellEntry<S, A>, entry: &CellEntry<S, A>) -> Standing
     ensures { IsReason own.now entry.now result }
 {
     if entry.is_same(own) {
         return Standing::Own;
     }
     match (own, entry) {
-        (_, Entry::Stall) => Standing::Stall,
-        (Entry::Blank, _) => Standing::NeverMet,
+        (_, CellEntry::Stall) => Standing::Stall,
+        (CellEntry::Blank, _) => Standing::NeverMet,
         _ => Standing::Open,
     }
 }

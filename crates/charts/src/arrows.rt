@@ -1,7 +1,10 @@
+use crate::captions::{ArrowText, EndText, length};
+use crate::layout::{LETTER, Layout};
 use crate::marks::Layer;
+use crate::picture::{Arrow, Picture};
+use crate::point::Point;
 use crate::svg::{Anchor, Pen};
 use network::Message;
-use pictures::{Arrow, ArrowText, EndText, LETTER, Layout, Picture, Point, length};
 
 /// How far above a row's middle messages come in, and how far below it they go out.
 const BESIDE: i64 = 5;
@@ -47,7 +50,7 @@ impl Heading {
 
 /// The way of an arrow: slanted at first, and level where its name stands, before its tip.
 #[derive(Clone, Copy)]
-struct Way {
+struct ArrowWay {
     from: Point,
     bend: Point,
     tip: Point,
@@ -67,7 +70,7 @@ pub fn draw_arrows(pen: &mut Pen, picture: &Picture, layout: &Layout, layer: Lay
             Some(row) => layout.row_y(row),
             None => layout.tail_y(left),
         };
-        if let Some(way) = Way::of(picture, layout, arrow, row, height) {
+        if let Some(way) = ArrowWay::of(picture, layout, arrow, row, height) {
             match layer {
                 Layer::Shapes => draw(pen, arrow, row, way),
                 Layer::Texts => name(pen, picture, arrow, row, way),
@@ -79,14 +82,14 @@ pub fn draw_arrows(pen: &mut Pen, picture: &Picture, layout: &Layout, layer: Lay
     }
 }
 
-impl Way {
+impl ArrowWay {
     fn of(
         picture: &Picture,
         layout: &Layout,
         arrow: &Arrow,
         row: Option<usize>,
         height: i64,
-    ) -> Option<Way> {
+    ) -> Option<ArrowWay> {
         let (from, to) = layout.lanes.of_trip(&arrow.trip)?;
         let heading = Heading::of(from, to);
         let half = layout.half(picture, row);
@@ -97,7 +100,7 @@ impl Way {
         let level = length(&ArrowText::of(picture, arrow))
             .saturating_mul(LETTER)
             .saturating_add(TIP + 6);
-        Some(Way {
+        Some(ArrowWay {
             from: start_of(picture, layout, arrow, from, to),
             bend: tip.moved(heading.back().along(level), 0),
             tip,
@@ -136,7 +139,7 @@ fn start_of(picture: &Picture, layout: &Layout, arrow: &Arrow, from: u32, to: u3
 
 /// Draws an arrow's line, with a rim that shows it over what it passes, a dot at its sender and a tip. What is served behind
 /// the picture has no tip.
-fn draw(pen: &mut Pen, arrow: &Arrow, row: Option<usize>, way: Way) {
+fn draw(pen: &mut Pen, arrow: &Arrow, row: Option<usize>, way: ArrowWay) {
     pen.group("arrow", kind_of(arrow), end_of(arrow, row));
     draw_line(pen, "rim", way);
     draw_line(pen, "wire", way);
@@ -151,7 +154,7 @@ fn draw(pen: &mut Pen, arrow: &Arrow, row: Option<usize>, way: Way) {
     pen.end_group();
 }
 
-fn draw_line(pen: &mut Pen, class: &str, way: Way) {
+fn draw_line(pen: &mut Pen, class: &str, way: ArrowWay) {
     let stop = way.before_tip(TIP - 1);
     if way.is_loop {
         let turn = way.bend.moved(8, 0);
@@ -166,7 +169,7 @@ fn draw_line(pen: &mut Pen, class: &str, way: Way) {
 }
 
 /// Writes an arrow's name above its level part, and behind its tip how it ends where that isn't in the picture.
-fn name(pen: &mut Pen, picture: &Picture, arrow: &Arrow, row: Option<usize>, way: Way) {
+fn name(pen: &mut Pen, picture: &Picture, arrow: &Arrow, row: Option<usize>, way: ArrowWay) {
     let name = ArrowText::of(picture, arrow);
     let half = length(&name).saturating_mul(LETTER) / 2;
     let at = way.before_tip(half.saturating_add(TIP + 2)).moved(0, -4);

@@ -1,22 +1,27 @@
 use crate::arrows::draw_arrows;
+use crate::captions::TitleText;
+use crate::fault::ChartFault;
+use crate::layout::Layout;
 use crate::marks::{Layer, draw_guides, draw_rows, draw_standings};
+use crate::picture::{Picture, PictureEdge};
+use crate::point::Point;
 use crate::style::STYLE;
 use crate::surroundings::{draw_bands, draw_findings, draw_legend, draw_lifelines, draw_plates};
 use crate::svg::Pen;
 use base::Shape;
-use pictures::{ChartFault, Layout, Moment, Picture, Point, TitleText};
 use record::Recording;
+use retelling::{Excerpt, Shown};
+use sheet::Sheet;
 use std::alloc::Global;
 use std::io::Write;
-use story::{Part, Sheet, Shown};
 
 /// Makes the steps of a recording again, and draws a part of them as a message sequence chart, in SVG.
 ///
-/// It is refused `TooManySteps` where the part has more than [`pictures::MOST_ROWS`] steps; nothing is written then.
+/// It is refused `TooManySteps` where the part has more than [`crate::MOST_ROWS`] steps; nothing is written then.
 pub fn chart<W: Write>(
     alloc: Global,
     recording: &Recording,
-    part: Part,
+    part: Excerpt,
     output: &mut W,
 ) -> Result<Shown, ChartFault> {
     let picture = Picture::of(alloc, recording, part)?;
@@ -45,9 +50,9 @@ fn drawn(alloc: Global, picture: &Picture, layout: &Layout) -> Sheet {
 
 /// Draws what controllers are and do, and over that the messages between them; or the texts of all that.
 fn draw_layer(pen: &mut Pen, picture: &Picture, layout: &Layout, layer: Layer) {
-    draw_standings(pen, picture, layout, Moment::Start, layer);
+    draw_standings(pen, picture, layout, PictureEdge::Start, layer);
     draw_rows(pen, picture, layout, layer);
-    draw_standings(pen, picture, layout, Moment::End, layer);
+    draw_standings(pen, picture, layout, PictureEdge::End, layer);
     draw_arrows(pen, picture, layout, layer);
 }
 

@@ -1,12 +1,20 @@
-//! Recordings as message sequence charts, drawn in SVG.
+//! Recordings as message sequence charts, drawn in SVG: which steps and messages are drawn, where each thing stands, and
+//! the drawing itself.
 #![tactic(auto)]
 
 mod arrows;
+mod captions;
 mod charting;
+mod fault;
+mod lanes;
+mod layout;
 mod marks;
+mod picture;
+mod point;
 mod style;
 mod surroundings;
 mod svg;
 
 pub use charting::chart;
-pub use pictures::{ChartFault, MOST_ROWS};
+pub use fault::ChartFault;
+pub use picture::MOST_ROWS;

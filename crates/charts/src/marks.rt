@@ -1,12 +1,14 @@
 use crate::arrows::Heading;
+use crate::captions::{
+    AskedText, BlockText, BoxText, MarkText, MomentText, StepText, ask_of, length,
+};
+use crate::layout::{LETTER, Layout, changed, half_box};
+use crate::picture::{Picture, PictureEdge, ShownController};
+use crate::point::Point;
 use crate::svg::{Anchor, Pen};
 use base::{BlockId, Outcome, Place};
 use monitor::Violation;
-use pictures::{
-    AskedText, BlockText, BoxText, LETTER, Layout, MarkText, Moment, MomentText, Picture, Point,
-    Standing, StepText, ask_of, changed, half_box, length,
-};
-use story::{Happening, Sight};
+use retelling::{Happening, SeenController};
 
 /// Half of how high a box is.
 const HALF_BOX: i64 = 9;
@@ -52,7 +54,7 @@ pub fn draw_standings(
     pen: &mut Pen,
     picture: &Picture,
     layout: &Layout,
-    moment: Moment,
+    moment: PictureEdge,
     layer: Layer,
 ) {
     if layer == Layer::Texts {
@@ -64,7 +66,7 @@ pub fn draw_standings(
 }
 
 /// Writes which moment it is, once for each block.
-fn name_standings(pen: &mut Pen, picture: &Picture, layout: &Layout, moment: Moment) {
+fn name_standings(pen: &mut Pen, picture: &Picture, layout: &Layout, moment: PictureEdge) {
     for (number, block) in picture.blocks().iter().enumerate() {
         let at = Point {
             x: layout.steps,
@@ -79,9 +81,9 @@ fn draw_standing(
     pen: &mut Pen,
     picture: &Picture,
     layout: &Layout,
-    moment: Moment,
+    moment: PictureEdge,
     layer: Layer,
-    standing: Standing,
+    standing: ShownController,
 ) {
     let place = place_of(standing.sight);
     let number = picture
@@ -102,9 +104,9 @@ fn draw_standing(
 }
 
 /// Whether the last violation in a picture names a controller, which is told at the end.
-fn is_named(picture: &Picture, moment: Moment, place: Place, block: BlockId) -> bool {
+fn is_named(picture: &Picture, moment: PictureEdge, place: Place, block: BlockId) -> bool {
     match (moment, picture.last_violation()) {
-        (Moment::End, Some((violation, at))) => names(violation, at, place, block),
+        (PictureEdge::End, Some((violation, at))) => names(violation, at, place, block),
         _ => false,
     }
 }
@@ -126,15 +128,21 @@ fn names(violation: Violation, at: Option<Place>, place: Place, block: BlockId) 
     }
 }
 
-fn place_of(sight: Sight) -> Place {
+fn place_of(sight: SeenController) -> Place {
     match sight {
-        Sight::Line(cache, _) => Place::Cache(cache),
-        Sight::Home(..) => Place::Dir,
+        SeenController::Line(cache, _) => Place::Cache(cache),
+        SeenController::Home(..) => Place::Dir,
     }
 }
 
 /// Draws the box of a controller, or the text in it.
-fn draw_box(pen: &mut Pen, picture: &Picture, center: Point, standing: Standing, layer: Layer) {
+fn draw_box(
+    pen: &mut Pen,
+    picture: &Picture,
+    center: Point,
+    standing: ShownController,
+    layer: Layer,
+) {
     let text = BoxText::of(picture, standing.sight, standing.block);
     let half = half_box(&text);
     if layer == Layer::Texts {
@@ -142,8 +150,8 @@ fn draw_box(pen: &mut Pen, picture: &Picture, center: Point, standing: Standing,
         return;
     }
     let class = match standing.sight {
-        Sight::Line(..) => "box",
-        Sight::Home(..) => "box of-home",
+        SeenController::Line(..) => "box",
+        SeenController::Home(..) => "box of-home",
     };
     let size = Point {
         x: half.saturating_mul(2),
@@ -167,7 +175,13 @@ fn tint_of(picture: &Picture, block: BlockId) -> &'static str {
 }
 
 /// Draws a ring round the box of a controller that a violation names.
-fn draw_ring(pen: &mut Pen, picture: &Picture, center: Point, standing: Standing, layer: Layer) {
+fn draw_ring(
+    pen: &mut Pen,
+    picture: &Picture,
+    center: Point,
+    standing: ShownController,
+    layer: Layer,
+) {
     if layer != Layer::Shapes {
         return;
     }
@@ -209,7 +223,13 @@ fn name_row(pen: &mut Pen, layout: &Layout, number: usize, row: &Happening) {
 fn draw_controller(pen: &mut Pen, picture: &Picture, row: &Happening, center: Point, layer: Layer) {
     if let Some(sight) = changed(row) {
         let block = row.step.block();
-        draw_box(pen, picture, center, Standing { block, sight }, layer);
+        draw_box(
+            pen,
+            picture,
+            center,
+            ShownController { block, sight },
+            layer,
+        );
     } else if layer == Layer::Shapes {
         let class = if row.acted.is_some() { "dot" } else { "tried" };
         pen.circle(class, center, 3);

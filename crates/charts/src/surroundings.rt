@@ -1,7 +1,8 @@
+use crate::captions::{LifelineText, ToldText, ViolationText, length};
+use crate::layout::{BAND, LEGEND, LETTER, Layout};
+use crate::picture::Picture;
+use crate::point::Point;
 use crate::svg::{Anchor, Pen};
-use pictures::{
-    BAND, LEGEND, LETTER, LaneText, Layout, Picture, Point, ToldText, ViolationText, length,
-};
 
 /// How far below the middle of a row the first band behind it begins.
 const BEHIND: i64 = 14;
@@ -30,12 +31,12 @@ pub fn draw_plates(pen: &mut Pen, picture: &Picture, layout: &Layout) {
                 x: layout.lane_x(number),
                 y: *y,
             };
-            draw_plate(pen, center, &LaneText::of(picture, *lane));
+            draw_plate(pen, center, &LifelineText::of(picture, *lane));
         }
     }
 }
 
-fn draw_plate(pen: &mut Pen, center: Point, name: &LaneText) {
+fn draw_plate(pen: &mut Pen, center: Point, name: &LifelineText) {
     let half = length(name).saturating_mul(LETTER).saturating_add(14) / 2;
     let size = Point {
         x: half.saturating_mul(2),

@@ -1,7 +1,7 @@
-use pictures::Point;
+use crate::point::Point;
+use sheet::Sheet;
 use std::alloc::Global;
 use std::fmt;
-use story::Sheet;
 
 /// To which side of its place a text goes.
 #[derive(Clone, Copy)]

@@ -8,18 +8,18 @@ use Rattle.network.specs.declared.message.RequestKind.{RequestKind}
 use Rattle.network.specs.declared.message.Response.{Response}
 use Rattle.network.specs.declared.message.Response.TheVariants.{Data, InvAck, DataExcl}
 use Rattle.directory_table.specs.declared.state.DirectoryState.{DirectoryState}
-use Rattle.both_tables.specs.Tables.{Tables}
+use Rattle.tables.specs.Tables.{Tables}
 use Rattle.machine.specs.Block.{AllFrom}
 use Rattle.machine.proofs.Counts.{only}
 use Rattle.machine.proofs.Seen.{from, dir_data, owner_data, excl_data, inv_ack}
 use Rattle.pairs.specs.declared.link.LinkPlace.{LinkPlace}
-use Rattle.pairs.specs.declared.side.Side.{Side}
+use Rattle.pairs.specs.declared.side.PairSide.{PairSide}
 use Rattle.closing.specs.Blamed.{holds_head, holds_side}
 use Rattle.closing.proofs.AlphaFits.{all-four, both}
 use Rattle.closing.proofs.Receivers.{AllGoBelow, GoesBelow}
 
 -- all messages of a cache without any are held
-pub idle-held : (tables : Tables) (h : DirectoryState) (s : Side) → s.link ≡ [] → s.gets ≡ 0 → s.getm ≡ 0 → s.puts ≡ 0 → s.putm ≡ 0 → s.dir_data ≡ 0 →
+pub idle-held : (tables : Tables) (h : DirectoryState) (s : PairSide) → s.link ≡ [] → s.gets ≡ 0 → s.getm ≡ 0 → s.puts ≡ 0 → s.putm ≡ 0 → s.dir_data ≡ 0 →
     s.owner_data ≡ 0 → s.excl_data ≡ 0 → holds_side tables h s ≡ true
 idle-held tables h s l g m ps pm d o x =
     both _ _ (both _ _ (ap (λ (xs : List LinkPlace). holds_head tables s.state xs) l)

@@ -10,8 +10,8 @@ use Rattle.network.specs.declared.message.RequestKind.TheVariants as request
 use Rattle.network.specs.declared.message.Response.{Response}
 use Rattle.network.specs.declared.message.Response.TheVariants.{Data, DataExcl}
 use Rattle.network.specs.Traffic.{Traffic, link}
-use Rattle.cache_line.specs.declared.line.Line.{Line}
-use Rattle.block_home.specs.declared.home.Home.{Home}
+use Rattle.control.specs.declared.line.Line.{Line}
+use Rattle.control.specs.declared.home.Home.{Home}
 use Rattle.control.specs.Sharing.{shares, others_from}
 use Rattle.machine.specs.Block.{BlockState}
 use Rattle.pairs.specs.declared.side.Waiting.{Waiting}
@@ -22,7 +22,7 @@ use Rattle.machine.proofs.Seen.{excl_data, home_data, inv_ack, ack_number}
 use Rattle.pairs.specs.declared.side.Owned.{Owned}
 use Rattle.pairs.specs.declared.side.Lag.{Lag}
 use Rattle.pairs.specs.declared.side.Lag.TheVariants.{Behind, Level, Ahead}
-use Rattle.pairs.specs.declared.side.Side.{Side}
+use Rattle.pairs.specs.declared.side.PairSide.{PairSide}
 use Rattle.pairs.specs.declared.pair.Shared.{Shared}
 use Rattle.pairs.specs.declared.pair.Pair.{Pair}
 use Rattle.pairs.specs.declared.side.Owned.TheVariants.{ByNobody, ByItself, ByAnother}
@@ -77,7 +77,7 @@ abbrev pub data_count : ℕ → List Response → ℕ
 data_count c rs = sum_by (dir_data c) rs + sum_by (owner_data c) rs + sum_by (excl_data c) rs
 
 -- a cache with this face, this home and these wires
-abbrev pub side_of : Face → Tags → Home → Traffic → ℕ → Side
+abbrev pub side_of : Face → Tags → Home → Traffic → ℕ → PairSide
 side_of f tags home w c = trimmed (record {
   state = f.line.state;
   waits = waiting_of f.line.pending;
@@ -129,7 +129,7 @@ owing tags b c = record { any = not (owed_to b c == 0); lag = tags.lag c }
 abbrev pub face : Tags → BlockState → ℕ → Face
 face tags b c = record { line = line_of b.lines c; fresh = tags.line c; owed = owing tags b c }
 
-abbrev pub side : Tags → BlockState → ℕ → Side
+abbrev pub side : Tags → BlockState → ℕ → PairSide
 side tags b c = side_of (face tags b c) tags b.home b.traffic c
 
 -- what all caches of a block see

@@ -3,21 +3,21 @@ use Rattle.std.proofs.Common.{◌≡◌, ℕ, ◌≤◌, List, Some, Bool, false
 use Rattle.std.proofs.Common.{inr, None, refl, ap, sym, ◌∙◌, not, sum_by, arith, slice_get}
 use Rattle.base.specs.declared.ids.CacheId.{CacheId}
 use Rattle.base.specs.declared.step.Ask.{Ask}
-use Rattle.both_tables.specs.Tables.{Tables}
+use Rattle.tables.specs.Tables.{Tables}
 use Rattle.machine.specs.Block.{BlockState, IsBlockAmong}
 use Rattle.machine.specs.declared.decision.Decision.TheVariants.{AtLine}
 use Rattle.machine.specs.declared.decision.Origin.TheVariants as origin
 use Rattle.base.specs.declared.step.Ask.TheVariants as ask
-use Rattle.base.specs.declared.controller.entry.Entry.TheVariants as table_entry
+use Rattle.base.specs.declared.controller.entry.CellEntry.TheVariants as table_entry
 use Rattle.cache_table.specs.declared.state.CacheState.{CacheState}
 use Rattle.cache_table.specs.declared.state.CacheState.TheVariants.{I, IsD, ImAd, ImA, S, SmAd, SmA, M, MiA, SiA, IiA, E}
 use Rattle.cache_table.specs.declared.event.CacheEvent.TheVariants as event
 use Rattle.cache_table.specs.declared.actions.CacheAction.{CacheAction}
 use Rattle.cache_table.specs.Table as cache_table
 use Rattle.cache_table.specs.Table.{CacheEntry}
-use Rattle.cache_line.specs.declared.line.Line.{Line}
-use Rattle.cache_line.specs.declared.line.LineInput.TheVariants as line_input
-use Rattle.control.specs.Events.{ask_event}
+use Rattle.control.specs.declared.line.Line.{Line}
+use Rattle.control.specs.declared.line.LineInput.TheVariants as line_input
+use Rattle.control.specs.LineEvents.{ask_event}
 use Rattle.machine.proofs.Seen.{line_of}
 use Rattle.machine.proofs.Sound.{line_of-there}
 use Rattle.machine.specs.Transition.{carried_out, is_idle}
@@ -26,15 +26,13 @@ use Rattle.pairs.specs.declared.steps.Rule.{Rule}
 use Rattle.pairs.specs.declared.steps.Party.TheVariants.{Nobody}
 use Rattle.pairs.specs.declared.steps.Rule.TheVariants.{AsksLoad, AsksStore, AsksReplacement}
 use Rattle.pairs.specs.declared.steps.Sight.TheVariants.{Unmoved}
-use Rattle.pairs.specs.Sights.{sight, by_line, at_line, answered, is_absent}
+use Rattle.pairs.specs.Sights.{sight, by_line, at_line, answered, is_absent, settles}
 use Rattle.closing.proofs.Alpha.{Tags, alpha, Faithful}
 use Rattle.closing.proofs.Simulation.{SimulatedBy}
-use Rattle.cache_line.specs.declared.line.Line.{Line}
 use Rattle.network.specs.Traffic.{Traffic}
-use Rattle.cache_line.specs.LineEffect.{moved_on, line_after, line_completes}
+use Rattle.control.specs.LineEffect.{moved_on, line_after, line_completes}
 use Rattle.machine.proofs.Counts.{total}
 use Rattle.machine.proofs.Seen.{names, is_inv, ack_number}
-use Rattle.pairs.specs.Sights.{settles}
 use Rattle.closing.proofs.Alpha.{Face, Owing, face, pair_of, owed_to, owing}
 use Rattle.closing.proofs.Lags.{same-lag}
 use Rattle.pairs.specs.declared.side.Lag.{Lag}

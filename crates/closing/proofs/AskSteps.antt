@@ -6,19 +6,19 @@ use Rattle.base.specs.declared.ids.CacheId.{CacheId}
 use Rattle.base.specs.declared.step.Ask.{Ask}
 use Rattle.base.specs.declared.step.Step.TheVariants as step
 use Rattle.base.specs.declared.step.Outcome.TheVariants as outcome
-use Rattle.both_tables.specs.Tables.{Tables}
+use Rattle.tables.specs.Tables.{Tables}
 use Rattle.machine.specs.Block.{BlockState, IsBlockAmong}
 use Rattle.machine.specs.declared.decision.Decision.TheVariants.{Refused}
 use Rattle.machine.specs.declared.decision.Origin.TheVariants as origin
 use Rattle.base.specs.declared.step.Ask.TheVariants as ask
-use Rattle.base.specs.declared.controller.entry.Entry.TheVariants as table_entry
+use Rattle.base.specs.declared.controller.entry.CellEntry.TheVariants as table_entry
 use Rattle.cache_table.specs.declared.state.CacheState.{CacheState}
 use Rattle.cache_table.specs.declared.event.CacheEvent.TheVariants as event
 use Rattle.cache_table.specs.Table as cache_table
 use Rattle.cache_table.specs.Table.{CacheEntry}
-use Rattle.cache_line.specs.declared.line.Line.{Line}
-use Rattle.cache_line.specs.declared.line.LineInput.TheVariants as line_input
-use Rattle.control.specs.Events.{ask_event}
+use Rattle.control.specs.declared.line.Line.{Line}
+use Rattle.control.specs.declared.line.LineInput.TheVariants as line_input
+use Rattle.control.specs.LineEvents.{ask_event}
 use Rattle.machine.proofs.Sound.{line_of-there}
 use Rattle.machine.specs.Transition.{carried_out, is_idle, by_line_entry, at_ask}
 use Rattle.pairs.specs.declared.pair.Pair.{Pair}

@@ -1,7 +1,7 @@
 -- What the check looks at keeps the balance.
-use Rattle.std.proofs.Common.{◌≡◌, List, subst, Contains}
+use Rattle.std.proofs.Common.{List, subst, Contains}
 use Rattle.std.specs.Global.{Vec}
-use Rattle.both_tables.specs.Tables.{Tables}
+use Rattle.tables.specs.Tables.{Tables}
 use Rattle.pairs.specs.declared.pair.Pair.{Pair}
 use Rattle.pairs.specs.declared.steps.Party.{Party}
 use Rattle.pairs.specs.declared.steps.Rule.{Rule}

@@ -2,7 +2,7 @@
 use Rattle.std.proofs.Common.{◌≡◌, ℕ, ◌<◌, List, refl, ap, sym, subst, ◌∙◌, inl, inr, Some, slice_get, length, Contains, IsTrue, arith}
 use Rattle.std.proofs.lemmas.Bool.{cases_lt, cases_eq}
 use Rattle.std.specs.Global.{Vec}
-use Rattle.both_tables.specs.Tables.{Tables}
+use Rattle.tables.specs.Tables.{Tables}
 use Rattle.pairs.specs.declared.pair.Pair.{Pair}
 use Rattle.pairs.specs.declared.steps.Party.{Party}
 use Rattle.pairs.specs.declared.steps.Party.TheVariants.{Second, Third}
@@ -11,17 +11,17 @@ use Rattle.pairs.specs.declared.steps.Sight.{Sight}
 use Rattle.pairs.specs.declared.steps.Sight.TheVariants.{Seen}
 use Rattle.pairs.specs.Pairs.{fits}
 use Rattle.closing.specs.declared.following.Followed.{Followed}
-use Rattle.closing.specs.declared.numbering.Numbers.{Numbers}
+use Rattle.closing.specs.declared.numbering.ViewNumbers.{ViewNumbers}
 use Rattle.closing.specs.declared.numbering.View.{View}
 use Rattle.closing.specs.declared.ranked.RankedPair.{RankedPair}
-use Rattle.closing.specs.inner.Numbered.{AreNumbered, IsNumber, first_view, second_view}
+use Rattle.closing.specs.inner.Numbered.{AreNumbered, IsNumberOfView, first_view, second_view}
 use Rattle.closing.specs.inner.Told.{AreSound, AreTold, GluesAt, IsTold, Keeps, KeepsOther, LeadsInto, Stays}
 use Rattle.closing.specs.Closed.{Meet, AreAlike, glued}
 use Rattle.closing.specs.Ranked.{ranked, opened_ranked, Sees, SeesAtHome, Ranked}
 use Rattle.closing.proofs.Reading.{contained-at, below-length}
 
 -- a view has one number
-pub one-number : (views : List View) (v w : View) (m n : ℕ) → v ≡ w → IsNumber views v m → IsNumber views w n → m ≡ n
+pub one-number : (views : List View) (v w : View) (m n : ℕ) → v ≡ w → IsNumberOfView views v m → IsNumberOfView views w n → m ≡ n
 one-number views v w m n same at_m at_n =
     elim (cases_eq m n) [
       | inl here ↦ here
@@ -31,7 +31,7 @@ one-number views v w m n same at_m at_n =
       ]
     ]
 
-module _ (tables : Tables) (list : List RankedPair) (numbers : Numbers) (steps : List (Vec Followed)) (sound : AreSound tables list)
+module _ (tables : Tables) (list : List RankedPair) (numbers : ViewNumbers) (steps : List (Vec Followed)) (sound : AreSound tables list)
     (numbered : AreNumbered list numbers.views.items numbers.firsts.items numbers.seconds.items numbers.spans.items)
     (told : AreTold tables list steps) (all_glued : (place : ℕ) → place < length list → GluesAt list numbers steps place) where
   -- three ranked pairs that meet are glued

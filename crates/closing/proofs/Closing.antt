@@ -3,9 +3,9 @@ use Rattle.std.proofs.Common.{◌≡◌, ℕ, ◌≤◌, ◌⊎◌, List, [], ap
 use Rattle.std.proofs.lemmas.Bool.{cases_eq}
 use Rattle.base.specs.Extent.{Extent, IsWithinLimits}
 use Rattle.base.specs.declared.step.Step.{Step}
-use Rattle.cache_line.specs.declared.line.Line.{Line}
+use Rattle.control.specs.declared.line.Line.{Line}
 use Rattle.control.specs.LineEffect.{is_reader, is_writer}
-use Rattle.both_tables.specs.Tables.{Tables}
+use Rattle.tables.specs.Tables.{Tables}
 use Rattle.machine.specs.Block.{BlockState, IsBlockAmong}
 use Rattle.machine.specs.Transition.{transition, decision_of}
 use Rattle.machine.specs.Machine.{opened, outcomes_of}

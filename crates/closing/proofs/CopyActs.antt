@@ -2,12 +2,12 @@
 use Rattle.std.proofs.Common.{◌≡◌, ℕ, ◌-◌, refl, ap, sym, ◌∙◌, Some, None, Bool, ◌||◌, ◌==◌}
 use Rattle.std.proofs.Common.{sum_by, slice_get}
 use Rattle.base.specs.declared.ids.CacheId.{CacheId}
-use Rattle.both_tables.specs.Tables.{Tables}
+use Rattle.tables.specs.Tables.{Tables}
 use Rattle.machine.specs.Block.{BlockState, IsBlockAmong}
 use Rattle.cache_table.specs.declared.event.CacheEvent.TheVariants as event
 use Rattle.cache_table.specs.Table.{CacheEntry}
-use Rattle.cache_line.specs.declared.line.Line.{Line}
-use Rattle.cache_line.specs.declared.line.LineInput.TheVariants as line_input
+use Rattle.control.specs.declared.line.Line.{Line}
+use Rattle.control.specs.declared.line.LineInput.TheVariants as line_input
 use Rattle.network.specs.declared.message.Response.{Response}
 use Rattle.network.specs.declared.message.Response.TheVariants.{Data, DataExcl}
 use Rattle.base.specs.declared.ids.Place.TheVariants.{Cache}
@@ -18,9 +18,9 @@ use Rattle.pairs.specs.declared.steps.Rule.TheVariants.{GetsOwnerData, GetsExclD
 use Rattle.pairs.specs.Sights.{by_line, at_line}
 use Rattle.pairs.specs.declared.side.Lag.{Lag}
 use Rattle.closing.proofs.Alpha.{Tags, Faithful}
-use Rattle.cache_line.specs.declared.line.Line.{Line}
+use Rattle.control.specs.declared.line.Line.{Line}
 use Rattle.network.specs.Traffic.{Traffic}
-use Rattle.cache_line.specs.LineEffect.{taken_in}
+use Rattle.control.specs.LineEffect.{taken_in}
 use Rattle.machine.proofs.Seen.{inv_ack, ack_number}
 use Rattle.closing.proofs.Alpha.{Face, Owing, face, owing, pair_of}
 use Rattle.closing.proofs.LineActing.{AckCounts}

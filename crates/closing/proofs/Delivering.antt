@@ -8,7 +8,7 @@ use Rattle.base.specs.declared.ids.BlockId.{BlockId}
 use Rattle.base.specs.declared.ids.Place.TheVariants.{Dir, Cache}
 use Rattle.base.specs.declared.step.Step.TheVariants as step
 use Rattle.base.specs.declared.step.Outcome.TheVariants as outcome
-use Rattle.base.specs.declared.controller.entry.Entry.TheVariants as table_entry
+use Rattle.base.specs.declared.controller.entry.CellEntry.TheVariants as table_entry
 use Rattle.network.specs.declared.message.Request.{Request}
 use Rattle.network.specs.declared.message.RequestKind.{RequestKind}
 use Rattle.network.specs.declared.message.RequestKind.TheVariants as request
@@ -24,17 +24,18 @@ use Rattle.directory_table.specs.declared.event.DirectoryEvent.{DirectoryEvent}
 use Rattle.directory_table.specs.declared.event.DirectoryEvent.TheVariants as home_event
 use Rattle.directory_table.specs.Table as directory_table
 use Rattle.directory_table.specs.Table.{DirectoryEntry}
-use Rattle.cache_line.specs.declared.line.Line.{Line}
-use Rattle.cache_line.specs.declared.line.LineInput.{LineInput}
-use Rattle.cache_line.specs.declared.line.LineInput.TheVariants as line_input
-use Rattle.cache_line.specs.declared.line.LineCompletion.{LineCompletion}
-use Rattle.cache_line.specs.declared.line.LineCompletion.TheVariants as done
-use Rattle.block_home.specs.declared.home.HomeInput.{HomeInput}
-use Rattle.block_home.specs.declared.home.HomeInput.TheVariants as home_input
-use Rattle.control.specs.Events.{event_at_line, request_event, response_event, forward_event, is_count}
+use Rattle.control.specs.declared.line.Line.{Line}
+use Rattle.control.specs.declared.line.LineInput.{LineInput}
+use Rattle.control.specs.declared.line.LineInput.TheVariants as line_input
+use Rattle.control.specs.declared.line.LineCompletion.{LineCompletion}
+use Rattle.control.specs.declared.line.LineCompletion.TheVariants as done
+use Rattle.control.specs.declared.home.HomeInput.{HomeInput}
+use Rattle.control.specs.declared.home.HomeInput.TheVariants as home_input
+use Rattle.control.specs.LineEvents.{event_at_line, response_event, forward_event, is_count}
+use Rattle.control.specs.HomeEvents.{request_event}
 use Rattle.control.specs.LineEffect.{line_completes}
 use Rattle.control.specs.Sharing.{shares, others_from}
-use Rattle.both_tables.specs.Tables.{Tables}
+use Rattle.tables.specs.Tables.{Tables}
 use Rattle.machine.specs.Block.{BlockState, IsBlockAmong}
 use Rattle.machine.specs.Transition.{outcome_of, carried_out, by_line_entry, by_home_entry, at_line, at_request, at_forward, at_response}
 use Rattle.machine.specs.declared.decision.Origin.{Origin}
@@ -45,7 +46,7 @@ use Rattle.machine.proofs.Sound.{line_of-there}
 use Rattle.machine.proofs.Moves as moving
 use Rattle.machine.proofs.Cases.{by-test}
 use Rattle.pairs.specs.declared.side.Lag.{Lag}
-use Rattle.pairs.specs.declared.side.Side.{Side}
+use Rattle.pairs.specs.declared.side.PairSide.{PairSide}
 use Rattle.pairs.specs.Sights.{acks_awaited, is_level}
 use Rattle.closing.specs.Blamed.{line_stalls, home_stalls, line_holds, home_holds, holds_head, holds_requests, holds_dir_data, holds_data, holds_side}
 use Rattle.closing.specs.Blamed.{holds_home_data, puts_event, putm_event}
@@ -262,7 +263,7 @@ module _ (tables : Tables) (b : BlockState) (block : BlockId) where
     -- Data of any kind
     data-found : (c : ℕ) → c < caches → holds_data tables (side tags b c) ≡ false → moving.Found tables b block
     data-found c lt h =
-        let s : Side = side tags b c in
+        let s : PairSide = side tags b c in
         elim (and-cases _ _ h) [
           | inl more ↦ elim (and-cases _ _ more) [
             | inl dir ↦
@@ -351,7 +352,7 @@ module _ (tables : Tables) (b : BlockState) (block : BlockId) where
 
     requests-found : (c : ℕ) → holds_requests tables b.home.state (side tags b c) ≡ false → moving.Found tables b block
     requests-found c h =
-        let s : Side = side tags b c in
+        let s : PairSide = side tags b c in
         elim (and-cases _ _ h) [
           | inl more ↦ elim (and-cases _ _ more) [
             | inl first ↦ elim (and-cases _ _ first) [

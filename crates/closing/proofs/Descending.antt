@@ -15,7 +15,7 @@ use Rattle.network.specs.declared.message.ForwardKind.TheVariants.{FwdGetS, FwdG
 use Rattle.network.specs.declared.message.Response.{Response}
 use Rattle.network.specs.declared.message.Response.TheVariants.{Data, InvAck, DataExcl}
 use Rattle.network.specs.Traffic.{link}
-use Rattle.both_tables.specs.Tables.{Tables}
+use Rattle.tables.specs.Tables.{Tables}
 use Rattle.machine.specs.Block.{BlockState, IsBlockAmong}
 use Rattle.machine.proofs.Counts.{only, total, link-total}
 use Rattle.machine.proofs.Seen.{from, is_gets, is_getm, is_puts, is_putm, names, is_fwd_gets, is_fwd_getm, is_inv, of_kind, dir_data, owner_data, excl_data}
@@ -23,7 +23,7 @@ use Rattle.machine.proofs.Seen.{home_data, inv_ack}
 use Rattle.machine.proofs.Moves as moving
 use Rattle.machine.proofs.Quiet.{IsQuiet}
 use Rattle.pairs.specs.declared.link.LinkPlace.{LinkPlace}
-use Rattle.pairs.specs.declared.side.Side.{Side}
+use Rattle.pairs.specs.declared.side.PairSide.{PairSide}
 use Rattle.pairs.specs.Pairs.{data_to, marked, own_marked}
 use Rattle.closing.specs.declared.ranked.Order.{Order}
 use Rattle.closing.specs.declared.ranked.Order.TheVariants.{After}
@@ -89,13 +89,13 @@ places-length c [] = refl
 places-length c (f ∷ fs) = omega (arith, places-length c fs)
 
 -- NOISE
-busy-linked : (s : Side) → length s.link ≢ 0 → is_busy s ≡ true
+busy-linked : (s : PairSide) → length s.link ≢ 0 → is_busy s ≡ true
 busy-linked s ne = first-or _ s.owed (second-or (not (data_to s == 0)) _ (some-true (length s.link) ne))
 
-busy-data : (s : Side) → data_to s ≢ 0 → is_busy s ≡ true
+busy-data : (s : PairSide) → data_to s ≢ 0 → is_busy s ≡ true
 busy-data s ne = first-or _ s.owed (first-or (not (data_to s == 0)) _ (some-true (data_to s) ne))
 
-busy-owed : (s : Side) → s.owed ≡ true → is_busy s ≡ true
+busy-owed : (s : PairSide) → s.owed ≡ true → is_busy s ≡ true
 busy-owed s e = second-or _ s.owed e
 
 module _ (tables : Tables) (list : List RankedPair) (caches : ℕ) (tags : Tags) (b : BlockState) (block : BlockId) (blamed : Blamed tables list)

@@ -2,15 +2,15 @@
 use Rattle.std.proofs.Common.{◌≡◌, ◌≢◌, ℕ, ◌+◌, ◌-◌, refl, ap, sym, subst, ◌∙◌, inl, Option, Some, None, Bool, true, not, ◌||◌, ◌==◌}
 use Rattle.std.proofs.Common.{if◌then◌else◌, sum_by, arith, slice_get, eq-eqb}
 use Rattle.base.specs.declared.ids.CacheId.{CacheId}
-use Rattle.both_tables.specs.Tables.{Tables}
+use Rattle.tables.specs.Tables.{Tables}
 use Rattle.machine.specs.Block.{BlockState, IsBlockAmong}
 use Rattle.cache_table.specs.declared.event.CacheEvent.TheVariants as event
 use Rattle.cache_table.specs.Table as cache_table
 use Rattle.cache_table.specs.Table.{CacheEntry}
 use Rattle.cache_table.specs.declared.event.CacheEvent.{CacheEvent}
-use Rattle.cache_line.specs.declared.line.Line.{Line}
-use Rattle.cache_line.specs.declared.line.LineInput.TheVariants as line_input
-use Rattle.control.specs.Events.{event_at_line}
+use Rattle.control.specs.declared.line.Line.{Line}
+use Rattle.control.specs.declared.line.LineInput.TheVariants as line_input
+use Rattle.control.specs.LineEvents.{event_at_line, more_acks}
 use Rattle.network.specs.declared.message.Response.{Response}
 use Rattle.network.specs.declared.message.Response.TheVariants.{Data}
 use Rattle.base.specs.declared.ids.Place.TheVariants.{Dir, Cache}
@@ -19,21 +19,17 @@ use Rattle.machine.proofs.Seen.{line_of}
 use Rattle.pairs.specs.declared.pair.Pair.{Pair}
 use Rattle.pairs.specs.declared.steps.Party.TheVariants.{Nobody}
 use Rattle.pairs.specs.declared.steps.Rule.TheVariants.{GetsDirData}
-use Rattle.pairs.specs.Sights.{sight, by_line, at_line}
+use Rattle.pairs.specs.Sights.{sight, by_line, at_line, response_seen, with_data, acks_awaited, dir_data_seen, is_ahead, is_level}
 use Rattle.closing.proofs.Alpha.{Tags, alpha, Faithful}
-use Rattle.cache_line.specs.declared.line.Line.{Line}
-use Rattle.network.specs.Traffic.{Traffic}
-use Rattle.cache_line.specs.LineEffect.{taken_in}
+use Rattle.network.specs.Traffic.{Traffic, response_taken}
+use Rattle.control.specs.LineEffect.{taken_in}
 use Rattle.machine.proofs.Seen.{ack_number}
 use Rattle.closing.proofs.Alpha.{Face, Owing, face, owing, pair_of, owed_to}
 use Rattle.closing.proofs.LineActing.{AckCounts}
 use Rattle.closing.proofs.LineGoes.{owed_on}
 use Rattle.closing.proofs.LineSettling.{message-settles}
-use Rattle.network.specs.Traffic.{response_taken}
-use Rattle.cache_line.specs.Events.{more_acks}
 use Rattle.machine.proofs.Facts.{promised-zero}
 use Rattle.machine.proofs.Seen.{dir_data}
-use Rattle.pairs.specs.Sights.{response_seen, with_data, acks_awaited, dir_data_seen, is_ahead, is_level}
 use Rattle.pairs.specs.declared.side.Lag.{Lag}
 use Rattle.pairs.specs.declared.steps.Sight.{Sight}
 use Rattle.closing.proofs.Simulation.{IsBreach, Breaks, next-other}

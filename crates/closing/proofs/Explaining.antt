@@ -1,6 +1,6 @@
 -- What the check looks at makes blame work.
 use Rattle.std.proofs.Common.{List, Contains}
-use Rattle.both_tables.specs.Tables.{Tables}
+use Rattle.tables.specs.Tables.{Tables}
 use Rattle.closing.specs.declared.ranked.RankedPair.{RankedPair}
 use Rattle.closing.specs.Ranked.{Ranked, Balanced}
 use Rattle.closing.specs.Blamed.{Blamed}

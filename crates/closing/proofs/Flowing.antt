@@ -16,10 +16,10 @@ use Rattle.network.specs.declared.message.Request.{Request}
 use Rattle.network.specs.declared.message.Response.{Response}
 use Rattle.cache_table.specs.declared.state.CacheState.{CacheState}
 use Rattle.cache_table.specs.Table as cache_table
-use Rattle.cache_line.specs.declared.line.Line.{Line}
-use Rattle.cache_line.specs.declared.line.LineInput.TheVariants as line_input
-use Rattle.control.specs.Events.{ask_event}
-use Rattle.both_tables.specs.Tables.{Tables}
+use Rattle.control.specs.declared.line.Line.{Line}
+use Rattle.control.specs.declared.line.LineInput.TheVariants as line_input
+use Rattle.control.specs.LineEvents.{ask_event}
+use Rattle.tables.specs.Tables.{Tables}
 use Rattle.machine.specs.Block.{BlockState, IsBlockAmong, opened_block}
 use Rattle.machine.specs.Transition.{transition, decision_of, carried_out, at_line, at_ask, is_idle}
 use Rattle.machine.specs.declared.decision.Origin.TheVariants as origin
@@ -39,7 +39,7 @@ use Rattle.machine.proofs.Seen.{from, is_gets, is_getm, is_puts, is_putm}
 use Rattle.machine.proofs.Sound.{line_of-there}
 use Rattle.machine.proofs.Whole.{whole-carried_out}
 use Rattle.pairs.specs.declared.pair.Pair.{Pair}
-use Rattle.pairs.specs.declared.side.Side.{Side}
+use Rattle.pairs.specs.declared.side.PairSide.{PairSide}
 use Rattle.pairs.specs.Pairs.{data_to}
 use Rattle.pairs.specs.Sights.{is_absent}
 use Rattle.closing.specs.declared.ranked.Order.TheVariants.{Unknown}
@@ -192,7 +192,7 @@ moved outcome.Blank r held absent idle blank broken = blank refl
 moved outcome.Broken r held absent idle blank broken = broken refl
 
 -- QUIET BLOCKS
-shut : (s : Side) → data_to s ≡ 0 → length s.link ≡ 0 → s.owed ≡ false → s.fwd_gets ≡ 0 → s.fwd_getm ≡ 0 → is_open s ≡ false
+shut : (s : PairSide) → data_to s ≡ 0 → length s.link ≡ 0 → s.owed ≡ false → s.fwd_gets ≡ 0 → s.fwd_getm ≡ 0 → is_open s ≡ false
 shut s d l o g m = λ i. (not (d i == 0) || not (l i == 0) || o i) || not (g i == 0) || not (m i == 0)
 
 silent : (shown : Bool) (requests datas : ℕ) → shown ≡ false → requests ≡ 0 → datas ≡ 0 → (not shown && (requests == 0) && (datas == 0)) ≡ true
@@ -212,7 +212,7 @@ module _ (tables : Tables) (pairs : List Pair) (list : List RankedPair) (caches 
   abbrev tags : Tags
   tags = h.followed.tags
 
-  abbrev seen : ℕ → Side
+  abbrev seen : ℕ → PairSide
   seen c = side h.followed.tags b c
 
   no-total : (f : Forward → ℕ) → total f b.traffic.links ≡ 0

@@ -2,15 +2,15 @@
 use Rattle.std.proofs.Common.{◌≡◌, ◌≢◌, ℕ, List, Option, Some, Bool, true, false, ◌==◌, if◌then◌else◌}
 use Rattle.std.proofs.Common.{refl, ap, sym, subst, ◌∙◌, inl, ◌+◌, ◌-◌, ◌&&◌, arith, slice_get}
 use Rattle.base.specs.declared.ids.CacheId.{CacheId}
-use Rattle.both_tables.specs.Tables.{Tables}
+use Rattle.tables.specs.Tables.{Tables}
 use Rattle.machine.specs.Block.{BlockState, IsBlockAmong}
 use Rattle.machine.specs.declared.decision.Origin.TheVariants as origin
-use Rattle.base.specs.declared.controller.entry.Entry.TheVariants as table_entry
+use Rattle.base.specs.declared.controller.entry.CellEntry.TheVariants as table_entry
 use Rattle.cache_table.specs.Table as cache_table
 use Rattle.cache_table.specs.Table.{CacheEntry}
 use Rattle.cache_table.specs.declared.event.CacheEvent.{CacheEvent}
-use Rattle.cache_line.specs.declared.line.Line.{Line}
-use Rattle.cache_line.specs.declared.line.LineInput.TheVariants as line_input
+use Rattle.control.specs.declared.line.Line.{Line}
+use Rattle.control.specs.declared.line.LineInput.TheVariants as line_input
 use Rattle.network.specs.declared.message.Forward.{Forward}
 use Rattle.network.specs.Traffic.{link}
 use Rattle.machine.proofs.Counts.{only}
@@ -24,7 +24,7 @@ use Rattle.pairs.specs.declared.steps.Rule.TheVariants.{TakesHead}
 use Rattle.pairs.specs.Sights.{sight, by_line, at_line}
 use Rattle.closing.proofs.Alpha.{Tags, alpha, Faithful}
 use Rattle.closing.proofs.Simulation.{IsBreach, LineBlank, LineActs}
-use Rattle.cache_line.specs.declared.line.Line.{Line}
+use Rattle.control.specs.declared.line.Line.{Line}
 use Rattle.network.specs.Traffic.{Traffic}
 use Rattle.machine.proofs.Counts.{total}
 use Rattle.machine.proofs.Seen.{names}
@@ -36,12 +36,12 @@ use Rattle.std.proofs.lemmas.Bool.{le-leb, leb-true}
 use Rattle.network.specs.declared.message.ForwardKind.{ForwardKind}
 use Rattle.network.specs.declared.message.ForwardKind.TheVariants.{FwdGetS, FwdGetM, Inv, PutAck}
 use Rattle.network.specs.Traffic.{head_taken}
-use Rattle.cache_line.specs.Events.{forward_event}
-use Rattle.cache_line.specs.LineEffect.{forward_requestor}
+use Rattle.control.specs.LineEvents.{forward_event}
+use Rattle.control.specs.LineEffect.{forward_requestor}
 use Rattle.machine.proofs.Counts.{link-there, head_taken-total, link-taken, link-taken_other}
 use Rattle.machine.proofs.Seen.{is_fwd_gets, is_fwd_getm}
 use Rattle.pairs.specs.declared.link.LinkPlace.{LinkPlace}
-use Rattle.pairs.specs.declared.side.Side.{Side}
+use Rattle.pairs.specs.declared.side.PairSide.{PairSide}
 use Rattle.pairs.specs.Pairs.{is_few_side}
 use Rattle.pairs.specs.Sights.{requestor, besides, unnamed, unnamed_side, headless, head_seen}
 use Rattle.closing.proofs.Alpha.{side_of}
@@ -59,12 +59,12 @@ begins [] m e = absurd (cc)
 begins (f ∷ l) m e = let same : m ≡ f = cc in ap (λ (x : Forward). x ∷ l) (sym same)
 
 -- one forward less names a cache, or doesn't
-abbrev less : Bool → ForwardKind → Side → Side
+abbrev less : Bool → ForwardKind → PairSide → PairSide
 less true kind s = unnamed_side kind s
 less false kind s = s
 
 -- a side without a forward, where that names the cache or not
-less-side : (t : Bool) (kind : ForwardKind) (s : Side) (gets getm : ℕ) (link : List LinkPlace) → gets + only t (is_fwd_gets kind) ≡ s.fwd_gets →
+less-side : (t : Bool) (kind : ForwardKind) (s : PairSide) (gets getm : ℕ) (link : List LinkPlace) → gets + only t (is_fwd_gets kind) ≡ s.fwd_gets →
     getm + only t (is_fwd_getm kind) ≡ s.fwd_getm → with_forwards s gets getm link ≡ less t kind (record s { link = link })
 less-side true FwdGetS s gets getm link g m = same_forwards s _ _ _ _ _ _ (omega (arith, g)) (omega (arith, m)) refl
 less-side true FwdGetM s gets getm link g m = same_forwards s _ _ _ _ _ _ (omega (arith, g)) (omega (arith, m)) refl
@@ -76,7 +76,7 @@ less-side false kind s gets getm link g m = same_forwards s _ _ _ _ _ _ (omega (
 fewer : (n : ℕ) → nat_le n 2 ≡ true → nat_le (n - 1) 2 ≡ true
 fewer n e = le-leb (n - 1) 2 (omega (arith, leb-true n 2 e))
 
-less-few : (t : Bool) (kind : ForwardKind) (s : Side) → is_few_side s ≡ true → is_few_side (less t kind s) ≡ true
+less-few : (t : Bool) (kind : ForwardKind) (s : PairSide) → is_few_side s ≡ true → is_few_side (less t kind s) ≡ true
 less-few false kind s few = few
 less-few true Inv s few = few
 less-few true PutAck s few = few
@@ -245,7 +245,7 @@ module _ (tables : Tables) (caches : ℕ) (tags : Tags) (b : BlockState) (cache 
           home_data = faithful.tags_are_true.home_data;
         };
         start = λ t x ne. head-start line same (table_entry.Act next actions) acts t x ne;
-        few = λ x ne far. ap (λ (s : Side). is_few_side s) (other-side (face tags b x) x ne)
+        few = λ x ne far. ap (λ (s : PairSide). is_few_side s) (other-side (face tags b x) x ne)
             ∙ less-few (f.requestor.0 == x) f.kind (side_of (face tags b x) tags b.home b.traffic x) (faithful.few x);
         settles = message-settles (record line { state = next }) (tags.line a) (owing tags b a);
         acks = λ u counts. forward-answers tags b cache f line (inv_acks actions) faithful e (ap (λ (l : Line). l.acks) (sym same)) u counts;

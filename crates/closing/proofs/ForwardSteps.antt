@@ -5,10 +5,10 @@ use Rattle.base.specs.declared.ids.BlockId.{BlockId}
 use Rattle.base.specs.declared.ids.CacheId.{CacheId}
 use Rattle.base.specs.declared.step.Step.TheVariants as step
 use Rattle.base.specs.declared.step.Outcome.TheVariants as outcome
-use Rattle.both_tables.specs.Tables.{Tables}
+use Rattle.tables.specs.Tables.{Tables}
 use Rattle.machine.specs.Block.{BlockState, IsBlockAmong}
 use Rattle.machine.specs.declared.decision.Origin.TheVariants as origin
-use Rattle.cache_line.specs.declared.line.LineInput.TheVariants as line_input
+use Rattle.control.specs.declared.line.LineInput.TheVariants as line_input
 use Rattle.network.specs.declared.message.Forward.{Forward}
 use Rattle.network.specs.Traffic.{link}
 use Rattle.machine.specs.Transition.{carried_out, at_forward}

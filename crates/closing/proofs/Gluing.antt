@@ -4,7 +4,7 @@ use Rattle.std.proofs.Common.{if◌then◌else◌, Contains, map, eq-eqb}
 use Rattle.std.proofs.lemmas.Bool.{cases_eq, ne_eqb}
 use Rattle.network.specs.declared.message.Forward.{Forward}
 use Rattle.network.specs.Traffic.{link}
-use Rattle.both_tables.specs.Tables.{Tables}
+use Rattle.tables.specs.Tables.{Tables}
 use Rattle.machine.specs.Block.{BlockState, IsBlockAmong}
 use Rattle.pairs.specs.declared.pair.Pair.{Pair}
 use Rattle.pairs.specs.Pairs.{fits}

@@ -7,9 +7,10 @@ use Rattle.network.specs.declared.message.ForwardKind.TheVariants as forward
 use Rattle.network.specs.Traffic.{Traffic, all_sent}
 use Rattle.directory_table.specs.declared.actions.DirectoryAction.{DirectoryAction}
 use Rattle.directory_table.specs.declared.actions.DirectoryAction.TheVariants as action
-use Rattle.block_home.specs.declared.home.Home.{Home}
+use Rattle.control.specs.declared.home.Home.{Home}
 use Rattle.control.specs.Sharing.{shares, others_from}
-use Rattle.control.specs.HomeEffect.{home_message, home_changed, IsBelow}
+use Rattle.control.specs.HomeEffect.{home_message, home_changed}
+use Rattle.control.specs.Homes.{IsBelow}
 use Rattle.machine.specs.Block.{BlockState}
 use Rattle.machine.proofs.Invitations.{invs_from}
 use Rattle.pairs.specs.declared.pair.Pair.{Pair}

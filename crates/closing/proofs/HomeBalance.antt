@@ -13,9 +13,10 @@ use Rattle.network.specs.declared.message.Response.TheVariants.{Data, DataExcl}
 use Rattle.network.specs.Traffic.{Traffic, all_sent, response_sent, forward_sent}
 use Rattle.directory_table.specs.declared.actions.DirectoryAction.{DirectoryAction}
 use Rattle.directory_table.specs.declared.actions.DirectoryAction.TheVariants as action
-use Rattle.block_home.specs.declared.home.Home.{Home}
+use Rattle.control.specs.declared.home.Home.{Home}
 use Rattle.control.specs.Sharing.{others_from}
-use Rattle.control.specs.HomeEffect.{home_message, owner_message, IsBelow}
+use Rattle.control.specs.HomeEffect.{home_message, owner_message}
+use Rattle.control.specs.Homes.{IsBelow}
 use Rattle.machine.specs.Block.{BlockState}
 use Rattle.machine.proofs.Counts.{only, only-nothing, forward_sent-total}
 use Rattle.machine.proofs.Seen.{names, is_inv, dir_data, ack_number, inv_ack}

@@ -10,8 +10,9 @@ use Rattle.network.specs.declared.message.Response.TheVariants.{Data}
 use Rattle.network.specs.Traffic.{Traffic, response_taken}
 use Rattle.directory_table.specs.declared.actions.DirectoryAction.{DirectoryAction}
 use Rattle.directory_table.specs.declared.actions.DirectoryAction.TheVariants as action
-use Rattle.block_home.specs.declared.home.Home.{Home}
-use Rattle.control.specs.HomeEffect.{home_changed, home_moved, with_owner, IsAmong, IsBelow}
+use Rattle.control.specs.declared.home.Home.{Home}
+use Rattle.control.specs.HomeEffect.{home_changed, home_moved, with_owner}
+use Rattle.control.specs.Homes.{IsAmong, IsBelow}
 use Rattle.control.proofs.HomeSends.{Keeps, keeps-changed, names-among}
 use Rattle.machine.specs.Block.{BlockState}
 use Rattle.machine.proofs.Counts.{sum_by-remove}

@@ -4,7 +4,7 @@ use Rattle.std.proofs.Common.{if◌then◌else◌, ◌&&◌, slice_get, nat_le, 
 use Rattle.std.proofs.lemmas.Bool.{leb-true, le-leb}
 use Rattle.base.specs.declared.ids.Place.{Place}
 use Rattle.base.specs.declared.ids.Place.TheVariants.{Dir}
-use Rattle.base.specs.declared.controller.entry.Entry.TheVariants as table_entry
+use Rattle.base.specs.declared.controller.entry.CellEntry.TheVariants as table_entry
 use Rattle.network.specs.declared.message.Message.{Message}
 use Rattle.network.specs.declared.message.Response.TheVariants.{Data}
 use Rattle.network.specs.Traffic.{Traffic, response_taken, all_sent}
@@ -13,9 +13,9 @@ use Rattle.directory_table.specs.declared.event.DirectoryEvent.TheVariants as ho
 use Rattle.directory_table.specs.declared.actions.DirectoryAction.{DirectoryAction}
 use Rattle.directory_table.specs.Table as directory_table
 use Rattle.directory_table.specs.Table.{DirectoryEntry}
-use Rattle.both_tables.specs.Tables.{Tables}
-use Rattle.block_home.specs.declared.home.Home.{Home}
-use Rattle.block_home.specs.declared.home.HomeInput.TheVariants as home_input
+use Rattle.tables.specs.Tables.{Tables}
+use Rattle.control.specs.declared.home.Home.{Home}
+use Rattle.control.specs.declared.home.HomeInput.TheVariants as home_input
 use Rattle.control.specs.HomeEffect.{home_moved}
 use Rattle.control.proofs.HomeCounts.{nothing-sent}
 use Rattle.machine.specs.Block.{BlockState, IsBlockAmong}
@@ -25,7 +25,7 @@ use Rattle.machine.specs.Transition.{carried_out}
 use Rattle.machine.proofs.Whole.{whole-at_home}
 use Rattle.machine.proofs.Seen.{line_of, home_data, ack_number}
 use Rattle.pairs.specs.declared.pair.Pair.{Pair}
-use Rattle.pairs.specs.declared.side.Side.{Side}
+use Rattle.pairs.specs.declared.side.PairSide.{PairSide}
 use Rattle.pairs.specs.Pairs.{is_few, is_few_side}
 use Rattle.pairs.specs.declared.steps.Party.{Party}
 use Rattle.pairs.specs.declared.steps.Party.TheVariants.{Nobody}
@@ -89,7 +89,7 @@ module _ (tables : Tables) (caches : ℕ) (tags : Tags) (b : BlockState) (index 
       (left-true tags b index by value acks e faithful.tags_are_true)
 
   few-after : (c : ℕ) → is_few_side (side tags_after after c) ≡ true
-  few-after c = ap (λ (s : Side). is_few_side s) (side-left tags b index by value acks e c) ∙ faithful.few c
+  few-after c = ap (λ (s : PairSide). is_few_side s) (side-left tags b index by value acks e c) ∙ faithful.few c
 
   few-home : nat_le (sum_by home_data wires.responses) 1 ≡ true
   few-home =

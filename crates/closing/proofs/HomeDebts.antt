@@ -10,7 +10,7 @@ use Rattle.network.specs.declared.message.Response.TheVariants.{Data, InvAck, Da
 use Rattle.network.specs.Traffic.{Traffic}
 use Rattle.directory_table.specs.declared.actions.DirectoryAction.{DirectoryAction}
 use Rattle.directory_table.specs.declared.actions.DirectoryAction.TheVariants as action
-use Rattle.block_home.specs.declared.home.Home.{Home}
+use Rattle.control.specs.declared.home.Home.{Home}
 use Rattle.control.specs.Sharing.{others_from}
 use Rattle.control.specs.HomeEffect.{home_changed, with_owner}
 use Rattle.machine.proofs.Counts.{only}

@@ -7,13 +7,14 @@ use Rattle.network.specs.declared.message.Forward.{Forward}
 use Rattle.network.specs.declared.message.ForwardKind.{ForwardKind}
 use Rattle.network.specs.declared.message.ForwardKind.TheVariants.{FwdGetS, FwdGetM, Inv, PutAck}
 use Rattle.network.specs.Traffic.{Traffic, link, forward_sent, all_sent}
-use Rattle.block_home.specs.declared.home.Home.{Home}
-use Rattle.control.specs.HomeEffect.{owner_message, IsBelow}
+use Rattle.control.specs.declared.home.Home.{Home}
+use Rattle.control.specs.HomeEffect.{owner_message}
+use Rattle.control.specs.Homes.{IsBelow}
 use Rattle.machine.proofs.Counts.{only}
 use Rattle.machine.proofs.Seen.{is_fwd_gets, is_fwd_getm, is_inv}
 use Rattle.machine.specs.Block.{BlockState}
 use Rattle.pairs.specs.declared.link.LinkPlace.{LinkPlace}
-use Rattle.pairs.specs.declared.side.Side.{Side}
+use Rattle.pairs.specs.declared.side.PairSide.{PairSide}
 use Rattle.pairs.specs.declared.pair.Pair.{Pair}
 use Rattle.pairs.specs.declared.steps.Party.{Party}
 use Rattle.pairs.specs.declared.steps.Party.TheVariants.{First, Second, Third}
@@ -28,22 +29,22 @@ use Rattle.closing.proofs.HomeSending.{at, forward-side, own-places, other-place
 use Rattle.closing.proofs.HomeScene.{Frame, staged, third_of, scene_of}
 
 -- a side that one more forward of a kind names
-abbrev pub with_counts : ForwardKind → Side → Side
+abbrev pub with_counts : ForwardKind → PairSide → PairSide
 with_counts kind s = with_forwards s (s.fwd_gets + is_fwd_gets kind) (s.fwd_getm + is_fwd_getm kind) s.link
 
-named-once : (kind : ForwardKind) (s : Side) → with_counts kind s ≡ named Third kind s
+named-once : (kind : ForwardKind) (s : PairSide) → with_counts kind s ≡ named Third kind s
 named-once FwdGetS s = same_forwards s _ _ _ _ _ _ refl (omega arith) refl
 named-once FwdGetM s = same_forwards s _ _ _ _ _ _ (omega arith) refl refl
 named-once Inv s = same_forwards s _ _ _ _ _ _ (omega arith) (omega arith) refl
 named-once PutAck s = same_forwards s _ _ _ _ _ _ (omega arith) (omega arith) refl
 
-named-first : (kind : ForwardKind) (s : Side) → named First kind s ≡ named Third kind s
+named-first : (kind : ForwardKind) (s : PairSide) → named First kind s ≡ named Third kind s
 named-first FwdGetS s = refl
 named-first FwdGetM s = refl
 named-first Inv s = refl
 named-first PutAck s = refl
 
-named-second : (kind : ForwardKind) (s : Side) → named Second kind s ≡ named Third kind s
+named-second : (kind : ForwardKind) (s : PairSide) → named Second kind s ≡ named Third kind s
 named-second FwdGetS s = refl
 named-second FwdGetM s = refl
 named-second Inv s = refl
@@ -64,10 +65,10 @@ module _ (fr : Frame) (debt : Debt) (tags : Tags) (b : BlockState) (home : Home)
   abbrev before : Scene
   before = scene_of fr debt tags (at b home w) a.0 d
 
-  abbrev first : Side
+  abbrev first : PairSide
   first = side tags (at b home w) a.0
 
-  abbrev second : Side
+  abbrev second : PairSide
   second = side tags (at b home w) d
 
   first-side : (l : List LinkPlace) → k < length w.links → is_inv kind ≡ 0 → places a.0 (link behind a.0) ≡ l →
@@ -153,18 +154,18 @@ owner-forwarded fr debt tags b home w a kind o d ne there none =
     elim (cases_eq o.0 a.0) [
       | inl same ↦
           onto-first fr debt tags b home w a kind o.0 d ne same there none
-          ∙ ap (λ (x : Side). record s { pair = record (first_linked kind s.pair) { first = x } })
+          ∙ ap (λ (x : PairSide). record s { pair = record (first_linked kind s.pair) { first = x } })
           (named-once kind (first_linked kind s.pair).first ∙ sym (named-first kind (first_linked kind s.pair).first))
           ∙ ap (λ (p : Party). forwarded_to p kind s) (sym (party-first o a.0 d same))
       | inr differ ↦ elim (cases_eq o.0 d) [
         | inl same ↦
             onto-second fr debt tags b home w a kind o.0 d ne same there none
-            ∙ ap (λ (x : Side). record s { pair = record (owner_linked Second kind s.pair) { first = x } })
+            ∙ ap (λ (x : PairSide). record s { pair = record (owner_linked Second kind s.pair) { first = x } })
             (named-once kind s.pair.first ∙ sym (named-second kind s.pair.first))
             ∙ ap (λ (p : Party). forwarded_to p kind s) (sym (party-second o a.0 d differ same))
         | inr other ↦
             onto-third fr debt tags b home w a kind o.0 d ne differ other there none
-            ∙ ap (λ (x : Side). record s { pair = record s.pair { first = x } }) (named-once kind s.pair.first)
+            ∙ ap (λ (x : PairSide). record s { pair = record s.pair { first = x } }) (named-once kind s.pair.first)
             ∙ ap (λ (p : Party). forwarded_to p kind s) (sym (party-third o a.0 d differ other))
       ]
     ]
@@ -185,4 +186,4 @@ pub put-acked : (fr : Frame) (debt : Debt) (tags : Tags) (b : BlockState) (home 
 put-acked fr debt tags b home w a d ne there =
     let s : Scene = scene_of fr debt tags (at b home w) a.0 d in
     onto-first fr debt tags b home w a PutAck a.0 d ne refl there refl
-    ∙ ap (λ (x : Side). record s { pair = record (first_linked PutAck s.pair) { first = x } }) (named-once PutAck (first_linked PutAck s.pair).first)
+    ∙ ap (λ (x : PairSide). record s { pair = record (first_linked PutAck s.pair) { first = x } }) (named-once PutAck (first_linked PutAck s.pair).first)

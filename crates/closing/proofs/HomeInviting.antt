@@ -10,7 +10,7 @@ use Rattle.network.specs.declared.message.Response.{Response}
 use Rattle.network.specs.declared.message.Response.TheVariants.{Data, DataExcl}
 use Rattle.network.specs.Traffic.{Traffic, link, response_sent, all_sent}
 use Rattle.network.proofs.Sending.{all_sent-append}
-use Rattle.block_home.specs.declared.home.Home.{Home}
+use Rattle.control.specs.declared.home.Home.{Home}
 use Rattle.control.specs.Sharing.{shares, others_from}
 use Rattle.control.specs.HomeEffect.{invalidations}
 use Rattle.machine.proofs.Counts.{only, only-nothing, total}

@@ -6,7 +6,7 @@ use Rattle.network.specs.declared.message.ForwardKind.{ForwardKind}
 use Rattle.network.specs.declared.message.ForwardKind.TheVariants as forward
 use Rattle.directory_table.specs.declared.actions.DirectoryAction.{DirectoryAction}
 use Rattle.directory_table.specs.declared.actions.DirectoryAction.TheVariants as action
-use Rattle.control.specs.HomeEffect.{IsBelow}
+use Rattle.control.specs.Homes.{IsBelow}
 use Rattle.pairs.specs.declared.pair.Pair.{Pair}
 use Rattle.pairs.specs.Pairs.{is_few_side}
 use Rattle.pairs.specs.declared.steps.Party.{Party}

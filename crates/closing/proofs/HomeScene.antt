@@ -9,7 +9,7 @@ use Rattle.control.specs.Sharing.{shares, others_from}
 use Rattle.machine.specs.Block.{BlockState}
 use Rattle.pairs.specs.declared.side.Owned.{Owned}
 use Rattle.pairs.specs.declared.side.Owned.TheVariants.{ByNobody, ByItself, ByAnother}
-use Rattle.pairs.specs.declared.side.Side.{Side}
+use Rattle.pairs.specs.declared.side.PairSide.{PairSide}
 use Rattle.pairs.specs.declared.pair.Shared.{Shared}
 use Rattle.pairs.specs.declared.pair.Pair.{Pair}
 use Rattle.pairs.specs.Pairs.{thirds_fit}
@@ -30,7 +30,7 @@ pub record Frame : Type 0 where
   pub second_others : Bool
   pub second_owned : Owned
 
-abbrev pub framed : Bool → Owned → Side → Side
+abbrev pub framed : Bool → Owned → PairSide → PairSide
 framed others owned s = record s { others = others; owned = owned }
 
 abbrev pub frame_of : Pair → Frame
@@ -42,7 +42,7 @@ frame_of p = record {
 }
 
 -- a scene from its parts
-abbrev pub staged : Frame → Shared → Side → Side → List Bool → List Bool → Party → Bool → Debt → Scene
+abbrev pub staged : Frame → Shared → PairSide → PairSide → List Bool → List Bool → Party → Bool → Debt → Scene
 staged fr g s t m n o third debt = record {
   pair = paired g (framed fr.first_others fr.first_owned s) (framed fr.second_others fr.second_owned t) m n;
   owner = o;

@@ -8,12 +8,12 @@ use Rattle.network.specs.declared.message.Forward.{Forward}
 use Rattle.network.specs.declared.message.Response.{Response}
 use Rattle.network.specs.declared.message.Response.TheVariants.{Data, DataExcl}
 use Rattle.network.specs.Traffic.{Traffic, link, response_sent, forward_sent}
-use Rattle.block_home.specs.declared.home.Home.{Home}
+use Rattle.control.specs.declared.home.Home.{Home}
 use Rattle.machine.proofs.Counts.{only, only-nothing, forward_sent-total, link-sent, link-sent_other}
 use Rattle.machine.proofs.Seen.{names, is_fwd_gets, is_fwd_getm, is_inv, dir_data, owner_data, excl_data, inv_ack}
 use Rattle.machine.specs.Block.{BlockState}
 use Rattle.pairs.specs.declared.link.LinkPlace.{LinkPlace}
-use Rattle.pairs.specs.declared.side.Side.{Side}
+use Rattle.pairs.specs.declared.side.PairSide.{PairSide}
 use Rattle.pairs.specs.Sights.{dir_data_sent, excl_data_sent}
 use Rattle.closing.proofs.Alpha.{Tags, Face, face, side, side_of, names_in, owed_to, data_count}
 use Rattle.closing.proofs.AlphaFits.{places}
@@ -103,7 +103,7 @@ forward-owes b home w k m c there none =
 -- a side after a forward that is no Inv: it may name the cache, and the link may be its own
 pub forward-side : (b : BlockState) (home : Home) (tags : Tags) (w : Traffic) (k : ℕ) (m : Forward) (c : ℕ) (l : List LinkPlace) → k < length w.links →
     is_inv m.kind ≡ 0 → places c (link (forward_sent k m w) c) ≡ l →
-    side tags (at b home (forward_sent k m w)) c ≡ (let s : Side = side tags (at b home w) c in
+    side tags (at b home (forward_sent k m w)) c ≡ (let s : PairSide = side tags (at b home w) c in
     with_forwards s (s.fwd_gets + names c is_fwd_gets m) (s.fwd_getm + names c is_fwd_getm m) l)
 forward-side b home tags w k m c l there none e =
     ap (λ (f : Face). side_of f tags home (forward_sent k m w) c)

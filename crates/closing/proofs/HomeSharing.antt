@@ -4,9 +4,10 @@ use Rattle.std.proofs.Common.{eq-eqb, length, if◌then◌else◌, not, replicat
 use Rattle.std.proofs.lemmas.Bool.{cases_eq, ne_eqb}
 use Rattle.base.specs.declared.ids.CacheId.{CacheId}
 use Rattle.network.specs.Traffic.{Traffic}
-use Rattle.block_home.specs.declared.home.Home.{Home}
+use Rattle.control.specs.declared.home.Home.{Home}
 use Rattle.control.specs.Sharing.{shares}
-use Rattle.control.specs.HomeEffect.{with_owner, with_sharer, IsBelow}
+use Rattle.control.specs.HomeEffect.{with_owner, with_sharer}
+use Rattle.control.specs.Homes.{IsBelow}
 use Rattle.machine.specs.Block.{BlockState}
 use Rattle.machine.proofs.Homes.{shares-set_same, shares-set_other, shares-cleared}
 use Rattle.pairs.specs.declared.steps.Party.{Party}

@@ -5,8 +5,9 @@ use Rattle.network.specs.Traffic.{Traffic, all_sent}
 use Rattle.network.proofs.Sending.{all_sent-append, links-all_sent}
 use Rattle.directory_table.specs.declared.actions.DirectoryAction.{DirectoryAction}
 use Rattle.directory_table.specs.declared.actions.DirectoryAction.TheVariants as action
-use Rattle.block_home.specs.declared.home.Home.{Home}
-use Rattle.control.specs.HomeEffect.{home_message, home_messages, home_changed, home_moved, IsAmong}
+use Rattle.control.specs.declared.home.Home.{Home}
+use Rattle.control.specs.HomeEffect.{home_message, home_messages, home_changed, home_moved}
+use Rattle.control.specs.Homes.{IsAmong}
 use Rattle.control.proofs.HomeSends.{Keeps, keeps-changed, names-among}
 use Rattle.machine.specs.Block.{BlockState}
 use Rattle.pairs.specs.declared.steps.Debt.{Debt}

@@ -13,7 +13,7 @@ use Rattle.network.specs.declared.message.Response.TheVariants.{Data, DataExcl}
 use Rattle.network.specs.Traffic.{Traffic, all_sent, response_sent}
 use Rattle.directory_table.specs.declared.actions.DirectoryAction.{DirectoryAction}
 use Rattle.directory_table.specs.declared.actions.DirectoryAction.TheVariants as action
-use Rattle.block_home.specs.declared.home.Home.{Home}
+use Rattle.control.specs.declared.home.Home.{Home}
 use Rattle.control.specs.HomeEffect.{home_message, home_changed, with_owner, owner_message, invalidations}
 use Rattle.machine.specs.Block.{BlockState}
 use Rattle.machine.proofs.Invitations.{invs-requests, invs-responses}

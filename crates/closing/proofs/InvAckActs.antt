@@ -3,14 +3,14 @@ use Rattle.std.proofs.Common.{◌≡◌, ◌≢◌, ℕ, ◌+◌, refl, ap, sym,
 use Rattle.std.proofs.Common.{if◌then◌else◌, sum_by, arith, slice_get, pos, ◌+ℤ◌}
 use Rattle.std.proofs.lemmas.Bool.{ne_eqb}
 use Rattle.base.specs.declared.ids.CacheId.{CacheId}
-use Rattle.both_tables.specs.Tables.{Tables}
+use Rattle.tables.specs.Tables.{Tables}
 use Rattle.machine.specs.Block.{BlockState, IsBlockAmong}
 use Rattle.cache_table.specs.declared.event.CacheEvent.TheVariants as event
 use Rattle.cache_table.specs.Table as cache_table
 use Rattle.cache_table.specs.Table.{CacheEntry}
-use Rattle.cache_line.specs.declared.line.Line.{Line}
-use Rattle.cache_line.specs.declared.line.LineInput.TheVariants as line_input
-use Rattle.control.specs.Events.{event_at_line}
+use Rattle.control.specs.declared.line.Line.{Line}
+use Rattle.control.specs.declared.line.LineInput.TheVariants as line_input
+use Rattle.control.specs.LineEvents.{event_at_line, is_count}
 use Rattle.network.specs.declared.message.Response.{Response}
 use Rattle.network.specs.declared.message.Response.TheVariants.{InvAck}
 use Rattle.machine.proofs.Seen.{line_of}
@@ -19,11 +19,10 @@ use Rattle.pairs.specs.declared.steps.Rule.{Rule}
 use Rattle.pairs.specs.declared.steps.Party.TheVariants.{Nobody}
 use Rattle.pairs.specs.declared.steps.Rule.TheVariants.{GetsInvAck}
 use Rattle.pairs.specs.declared.steps.Sight.TheVariants.{Unmoved}
-use Rattle.pairs.specs.Sights.{sight, by_line, at_line}
+use Rattle.pairs.specs.Sights.{sight, by_line, at_line, response_seen, ack_fits, counts_fit}
 use Rattle.closing.proofs.Alpha.{Tags, alpha, Faithful}
-use Rattle.cache_line.specs.declared.line.Line.{Line}
-use Rattle.network.specs.Traffic.{Traffic}
-use Rattle.cache_line.specs.LineEffect.{taken_in}
+use Rattle.network.specs.Traffic.{Traffic, response_taken}
+use Rattle.control.specs.LineEffect.{taken_in, one_ack_less}
 use Rattle.machine.proofs.Counts.{total}
 use Rattle.machine.proofs.Seen.{names, is_inv, inv_ack, ack_number}
 use Rattle.closing.proofs.Alpha.{Face, LagIs, Owing, face, owing, pair_of, owed_to}
@@ -32,13 +31,9 @@ use Rattle.closing.proofs.LineGoes.{owed_on}
 use Rattle.closing.proofs.Alpha.{side_of}
 use Rattle.closing.proofs.LineActing.{same-if}
 use Rattle.closing.proofs.LineSettling.{message-settles}
-use Rattle.network.specs.Traffic.{response_taken}
-use Rattle.cache_line.specs.Events.{is_count}
-use Rattle.cache_line.specs.LineEffect.{one_ack_less}
 use Rattle.machine.proofs.Counts.{total}
 use Rattle.machine.proofs.Facts.{promised-zero}
 use Rattle.machine.proofs.Seen.{dir_data, late_of}
-use Rattle.pairs.specs.Sights.{response_seen, ack_fits, counts_fit}
 use Rattle.closing.proofs.LineActing.{AckCounts}
 use Rattle.closing.proofs.Taking.{face_with, counts-nothing, lost-count, same-count}
 use Rattle.closing.proofs.Taking.{ack-taken, not-last}

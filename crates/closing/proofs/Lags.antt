@@ -4,9 +4,9 @@ use Rattle.std.proofs.Common.{subst, if◌then◌else◌, arith, eq-eqb, ℤ, po
 use Rattle.std.proofs.lemmas.Int.{ints}
 use Rattle.std.proofs.lemmas.Bool.{cases_eq, ne_eqb}
 use Rattle.std.specs.Int.Signed.{◌<ℤ◌}
-use Rattle.cache_line.specs.Events.{more_acks, is_count}
-use Rattle.cache_line.specs.LineEffect.{one_ack_less}
-use Rattle.cache_line.specs.Events.{forward_event}
+use Rattle.control.specs.LineEvents.{more_acks, is_count}
+use Rattle.control.specs.LineEffect.{one_ack_less}
+use Rattle.control.specs.LineEvents.{forward_event}
 use Rattle.network.specs.declared.message.ForwardKind.{ForwardKind}
 use Rattle.network.specs.declared.message.ForwardKind.TheVariants.{FwdGetS, FwdGetM, Inv, PutAck}
 use Rattle.machine.proofs.Seen.{late_of, is_inv}

@@ -15,8 +15,8 @@ use Rattle.network.specs.Traffic.{Traffic, request_sent, response_sent, all_sent
 use Rattle.network.proofs.Sending.{all_sent-append}
 use Rattle.cache_table.specs.declared.actions.CacheAction.{CacheAction}
 use Rattle.cache_table.specs.declared.actions.CacheAction.TheVariants as action
-use Rattle.cache_line.specs.LineEffect.{line_message, line_messages}
-use Rattle.block_home.specs.declared.home.Home.{Home}
+use Rattle.control.specs.LineEffect.{line_message, line_messages}
+use Rattle.control.specs.declared.home.Home.{Home}
 use Rattle.machine.proofs.Counts.{only, only-nothing}
 use Rattle.machine.proofs.Seen.{from, is_putm, dir_data, owner_data, excl_data, home_data, inv_ack, ack_number, is_owner}
 use Rattle.pairs.specs.declared.pair.Pair.{Pair}

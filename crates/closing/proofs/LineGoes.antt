@@ -3,15 +3,15 @@ use Rattle.std.proofs.Common.{◌≡◌, ◌≢◌, ℕ, ◌+◌, ◌≤◌, Lis
 use Rattle.std.proofs.Common.{if◌then◌else◌, slice_get, sum_by, nat_le, ℤ, pos, ◌+ℤ◌, eq-eqb, All, ◌⊎◌, None}
 use Rattle.std.proofs.lemmas.Bool.{cases_eq, ne_eqb}
 use Rattle.base.specs.declared.ids.CacheId.{CacheId}
-use Rattle.base.specs.declared.controller.entry.Entry.TheVariants.{Act}
+use Rattle.base.specs.declared.controller.entry.CellEntry.TheVariants.{Act}
 use Rattle.network.specs.Traffic.{Traffic, all_sent}
 use Rattle.cache_table.specs.declared.state.CacheState.{CacheState}
 use Rattle.cache_table.specs.declared.event.CacheEvent.{CacheEvent}
 use Rattle.cache_table.specs.declared.actions.CacheAction.{CacheAction}
-use Rattle.cache_line.specs.declared.line.Line.{Line}
-use Rattle.cache_line.specs.declared.line.LineInput.{LineInput}
-use Rattle.cache_line.specs.LineEffect.{line_messages, taken_in, requestor_of, moved_on, line_after, line_completes}
-use Rattle.both_tables.specs.Tables.{Tables}
+use Rattle.control.specs.declared.line.Line.{Line}
+use Rattle.control.specs.declared.line.LineInput.{LineInput}
+use Rattle.control.specs.LineEffect.{line_messages, taken_in, requestor_of, moved_on, line_after, line_completes}
+use Rattle.tables.specs.Tables.{Tables}
 use Rattle.machine.specs.declared.decision.Origin.{Origin}
 use Rattle.machine.specs.declared.decision.Decision.{Decision}
 use Rattle.machine.specs.declared.decision.Decision.TheVariants.{AtLine}

@@ -5,11 +5,11 @@ use Rattle.base.specs.declared.step.Ask.{Ask}
 use Rattle.base.specs.declared.step.Ask.TheVariants as ask
 use Rattle.base.specs.declared.step.Outcome.TheVariants as outcome
 use Rattle.network.specs.Traffic.{Traffic}
-use Rattle.cache_line.specs.declared.line.Line.{Line}
-use Rattle.cache_line.specs.declared.line.LineCompletion.{LineCompletion}
-use Rattle.cache_line.specs.declared.line.LineCompletion.TheVariants as done
-use Rattle.cache_line.specs.LineEffect.{is_reader, is_modified, completed, pending_completed, after_ask, after_message}
-use Rattle.block_home.specs.declared.home.Home.{Home}
+use Rattle.control.specs.declared.line.Line.{Line}
+use Rattle.control.specs.declared.line.LineCompletion.{LineCompletion}
+use Rattle.control.specs.declared.line.LineCompletion.TheVariants as done
+use Rattle.control.specs.LineEffect.{is_reader, is_modified, completed, pending_completed, after_ask, after_message}
+use Rattle.control.specs.declared.home.Home.{Home}
 use Rattle.machine.specs.declared.decision.Origin.{Origin}
 use Rattle.machine.specs.declared.decision.Origin.TheVariants as origin
 use Rattle.machine.specs.Transition.{outcome_of, latest_after, plain_outcome}

@@ -15,7 +15,7 @@ use Rattle.cache_table.specs.declared.actions.CacheAction.{CacheAction}
 use Rattle.cache_table.specs.declared.actions.CacheAction.TheVariants as line_action
 use Rattle.directory_table.specs.declared.actions.DirectoryAction.{DirectoryAction}
 use Rattle.directory_table.specs.declared.actions.DirectoryAction.TheVariants as action
-use Rattle.block_home.specs.declared.home.Home.{Home}
+use Rattle.control.specs.declared.home.Home.{Home}
 use Rattle.control.specs.LineEffect.{line_message, line_messages}
 use Rattle.control.specs.HomeEffect.{home_message, home_messages, home_changed, invalidation, invalidations, owner_message}
 use Rattle.machine.proofs.Counts.{link-sent, link-sent_other}

@@ -2,7 +2,7 @@
 use Rattle.std.proofs.Common.{◌≡◌, ℕ, ◌+◌, List, [], refl, ap, ◌∙◌, zero, suc, arith, true, false, not, ◌==◌, map, replicate, pos, ◌+ℤ◌}
 use Rattle.std.proofs.lemmas.List.{length-replicate}
 use Rattle.network.specs.declared.message.Forward.{Forward}
-use Rattle.cache_line.specs.declared.line.Line.{Line}
+use Rattle.control.specs.declared.line.Line.{Line}
 use Rattle.control.specs.LineEffect.{opened_line}
 use Rattle.control.specs.Sharing.{shares, others_from}
 use Rattle.machine.specs.Block.{IsBlockAmong, opened_block}
@@ -10,7 +10,7 @@ use Rattle.machine.proofs.Counts.{total}
 use Rattle.machine.proofs.Opened.{idle-line, linkless}
 use Rattle.machine.proofs.Seen.{names, line_of, late_of, is_fwd_gets, is_fwd_getm, is_inv}
 use Rattle.pairs.specs.declared.side.Lag.TheVariants.{Level}
-use Rattle.pairs.specs.declared.side.Side.{Side}
+use Rattle.pairs.specs.declared.side.PairSide.{PairSide}
 use Rattle.pairs.specs.declared.side.Owned.TheVariants.{ByNobody}
 use Rattle.pairs.specs.Pairs.{opened_side, opened_pair, is_few_side}
 use Rattle.closing.proofs.Alpha.{Tags, alpha, side, names_on, owed_to, waiting_of, Faithful}
@@ -87,7 +87,7 @@ opened-faithful caches value = record {
     home_data = λ e. absurd (cc);
     memory = λ e. refl;
   };
-  few = λ c. ap (λ (s : Side). is_few_side s) (opened-side caches value c);
+  few = λ c. ap (λ (s : PairSide). is_few_side s) (opened-side caches value c);
   few_home = refl;
   lags = λ c. (law caches value c (line_of (opened_block caches value).lines c) (idle-line caches c), omega (arith, nothing-owed caches value c));
   announced = λ c. omega arith;

@@ -8,7 +8,7 @@ use Rattle.base.specs.declared.step.Ask.TheVariants.{Load, Store, Replace}
 use Rattle.base.specs.declared.step.Step.{Step}
 use Rattle.base.specs.declared.step.Step.TheVariants as step
 use Rattle.base.specs.declared.step.Outcome.TheVariants as outcome
-use Rattle.base.specs.declared.controller.entry.Entry.TheVariants as table_entry
+use Rattle.base.specs.declared.controller.entry.CellEntry.TheVariants as table_entry
 use Rattle.network.specs.declared.message.Request.{Request}
 use Rattle.network.specs.declared.message.Forward.{Forward}
 use Rattle.network.specs.declared.message.ForwardKind.{ForwardKind}
@@ -27,21 +27,22 @@ use Rattle.directory_table.specs.declared.actions.DirectoryAction.{DirectoryActi
 use Rattle.directory_table.specs.declared.actions.DirectoryAction.TheVariants as action
 use Rattle.directory_table.specs.Table as directory_table
 use Rattle.directory_table.specs.Table.{DirectoryEntry}
-use Rattle.cache_line.specs.declared.line.Line.{Line}
-use Rattle.cache_line.specs.declared.line.LineInput.{LineInput}
-use Rattle.cache_line.specs.declared.line.LineInput.TheVariants as line_input
-use Rattle.cache_line.specs.declared.line.LineCompletion.{LineCompletion}
-use Rattle.cache_line.specs.declared.line.LineCompletion.TheVariants as done
-use Rattle.block_home.specs.declared.home.Home.{Home}
-use Rattle.block_home.specs.declared.home.HomeInput.{HomeInput}
-use Rattle.block_home.specs.declared.home.HomeInput.TheVariants as home_input
-use Rattle.control.specs.Events.{event_at_line, event_at_home}
+use Rattle.control.specs.declared.line.Line.{Line}
+use Rattle.control.specs.declared.line.LineInput.{LineInput}
+use Rattle.control.specs.declared.line.LineInput.TheVariants as line_input
+use Rattle.control.specs.declared.line.LineCompletion.{LineCompletion}
+use Rattle.control.specs.declared.line.LineCompletion.TheVariants as done
+use Rattle.control.specs.declared.home.Home.{Home}
+use Rattle.control.specs.declared.home.HomeInput.{HomeInput}
+use Rattle.control.specs.declared.home.HomeInput.TheVariants as home_input
+use Rattle.control.specs.LineEvents.{event_at_line}
+use Rattle.control.specs.HomeEvents.{event_at_home}
 use Rattle.control.specs.LineEffect.{opened_line, forward_requestor, requestor_of, line_message, line_messages, line_sends, taken_in, after_ask, after_message}
 use Rattle.control.specs.LineEffect.{after_settling, moved_on, line_completes, line_after}
 use Rattle.control.specs.HomeEffect.{sender_of, brought_by, home_message, home_messages, home_changed, home_sends, invalidation, invalidations, owner_message}
-use Rattle.control.specs.HomeEffect.{IsBelow}
+use Rattle.control.specs.Homes.{IsBelow}
 use Rattle.control.proofs.HomeCounts.{nothing-sent}
-use Rattle.both_tables.specs.Tables.{Tables}
+use Rattle.tables.specs.Tables.{Tables}
 use Rattle.machine.specs.Block.{BlockState, IsBlockAmong, opened_block}
 use Rattle.machine.specs.Transition.{transition, carried_out, by_line_entry, by_home_entry, at_line, at_ask, at_request, at_forward, at_response, without}
 use Rattle.machine.specs.Transition.{is_idle}

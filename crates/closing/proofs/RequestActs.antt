@@ -2,15 +2,15 @@
 use Rattle.std.proofs.Common.{◌≡◌, ◌≢◌, ℕ, ◌+◌, ◌≤◌, ◌<◌, List, refl, ap, sym, subst, ◌∙◌, inl, inr, Option, Some, None, Bool, true, false, arith}
 use Rattle.std.proofs.Common.{◌&&◌, slice_get, length, nat_le, sum_by, ◌⊎◌, zero, suc, pos, ◌+ℤ◌}
 use Rattle.std.proofs.lemmas.Bool.{cases_eq, cases_lt, leb-true}
-use Rattle.base.specs.declared.controller.entry.Entry.TheVariants as table_entry
+use Rattle.base.specs.declared.controller.entry.CellEntry.TheVariants as table_entry
 use Rattle.network.specs.declared.message.Request.{Request}
 use Rattle.network.specs.Traffic.{Traffic, request_taken}
 use Rattle.directory_table.specs.declared.state.DirectoryState.{DirectoryState}
 use Rattle.directory_table.specs.declared.event.DirectoryEvent.{DirectoryEvent}
 use Rattle.directory_table.specs.declared.actions.DirectoryAction.{DirectoryAction}
 use Rattle.directory_table.specs.Table as directory_table
-use Rattle.both_tables.specs.Tables.{Tables}
-use Rattle.block_home.specs.declared.home.HomeInput.TheVariants as home_input
+use Rattle.tables.specs.Tables.{Tables}
+use Rattle.control.specs.declared.home.HomeInput.TheVariants as home_input
 use Rattle.control.specs.HomeEffect.{value_in}
 use Rattle.machine.specs.Block.{BlockState, IsBlockAmong}
 use Rattle.machine.specs.declared.decision.Decision.TheVariants.{AtHome}
@@ -19,7 +19,7 @@ use Rattle.machine.specs.Transition.{carried_out}
 use Rattle.machine.proofs.Senders.{AllFrom-get}
 use Rattle.machine.proofs.Whole.{whole-at_home}
 use Rattle.machine.proofs.Seen.{line_of, home_data}
-use Rattle.pairs.specs.declared.side.Side.{Side}
+use Rattle.pairs.specs.declared.side.PairSide.{PairSide}
 use Rattle.pairs.specs.Pairs.{is_few, is_few_side}
 use Rattle.pairs.specs.declared.steps.Rule.{Rule}
 use Rattle.pairs.specs.declared.steps.Sight.{Sight}
@@ -65,7 +65,7 @@ the-first : (s t u v x y : Bool) → s && t && u && v && x && y ≡ true → s �
 the-first s t u v x y h =
     and-left s t (and-left (s && t) u (and-left (s && t && u) v (and-left (s && t && u && v) x (and-left (s && t && u && v && x) y h))))
 
-few-datas : (s : Side) → is_few_side s ≡ true → s.dir_data ≤ 1
+few-datas : (s : PairSide) → is_few_side s ≡ true → s.dir_data ≤ 1
 few-datas s h =
     leb-true s.dir_data 1
     (and-right (nat_le s.gets 2 && nat_le s.getm 2 && nat_le s.puts 1 && nat_le s.putm 1) (nat_le s.dir_data 1)
@@ -117,7 +117,7 @@ module _ (tables : Tables) (caches : ℕ) (tags : Tags) (b : BlockState) (index 
     acks_elsewhere = λ c ne. refl;
     owed_elsewhere = λ c ne. refl;
     past =
-        λ c past. ap (λ (s : Side). is_few_side s) (left-elsewhere tags b index r e c (λ same. absurd (omega (arith, same, below, past))))
+        λ c past. ap (λ (s : PairSide). is_few_side s) (left-elsewhere tags b index r e c (λ same. absurd (omega (arith, same, below, past))))
         ∙ faithful.few c;
   }
 

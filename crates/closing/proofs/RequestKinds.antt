@@ -1,15 +1,15 @@
 -- A cell of the home acts on a request of any kind.
 use Rattle.std.proofs.Common.{◌≡◌, ℕ, ◌≤◌, refl, ap, sym, subst, ◌∙◌, Option, Some, None, Bool, true, false, ◌==◌, if◌then◌else◌, ◌&&◌, slice_get}
 use Rattle.base.specs.declared.ids.CacheId.{CacheId}
-use Rattle.base.specs.declared.controller.entry.Entry.TheVariants as table_entry
+use Rattle.base.specs.declared.controller.entry.CellEntry.TheVariants as table_entry
 use Rattle.network.specs.declared.message.Request.{Request}
 use Rattle.network.specs.declared.message.RequestKind.{RequestKind}
 use Rattle.network.specs.declared.message.RequestKind.TheVariants as request
 use Rattle.directory_table.specs.declared.event.DirectoryEvent.TheVariants as home_event
 use Rattle.directory_table.specs.Table as directory_table
-use Rattle.both_tables.specs.Tables.{Tables}
-use Rattle.block_home.specs.declared.home.HomeInput.TheVariants as home_input
-use Rattle.control.specs.Events.{request_event, owns}
+use Rattle.tables.specs.Tables.{Tables}
+use Rattle.control.specs.declared.home.HomeInput.TheVariants as home_input
+use Rattle.control.specs.HomeEvents.{request_event, owns}
 use Rattle.control.specs.HomeEffect.{value_in}
 use Rattle.control.specs.Sharing.{shares, others_from}
 use Rattle.machine.specs.Block.{BlockState, IsBlockAmong}

@@ -4,15 +4,15 @@ use Rattle.std.proofs.Common.{refl, ap, ◌∙◌, inl, inr, ◌+◌, ◌-◌, �
 use Rattle.base.specs.declared.ids.BlockId.{BlockId}
 use Rattle.base.specs.declared.step.Step.TheVariants as step
 use Rattle.base.specs.declared.step.Outcome.TheVariants as outcome
-use Rattle.both_tables.specs.Tables.{Tables}
+use Rattle.tables.specs.Tables.{Tables}
 use Rattle.machine.specs.Block.{BlockState, IsBlockAmong}
 use Rattle.machine.specs.declared.decision.Origin.TheVariants as origin
-use Rattle.base.specs.declared.controller.entry.Entry.TheVariants as table_entry
-use Rattle.control.specs.Events.{request_event}
+use Rattle.base.specs.declared.controller.entry.CellEntry.TheVariants as table_entry
+use Rattle.control.specs.HomeEvents.{request_event}
 use Rattle.control.specs.Sharing.{shares, others_from}
 use Rattle.network.specs.declared.message.RequestKind.{RequestKind}
 use Rattle.network.specs.declared.message.RequestKind.TheVariants as request
-use Rattle.block_home.specs.declared.home.HomeInput.TheVariants as home_input
+use Rattle.control.specs.declared.home.HomeInput.TheVariants as home_input
 use Rattle.directory_table.specs.Table as directory_table
 use Rattle.directory_table.specs.Table.{DirectoryEntry}
 use Rattle.network.specs.declared.message.Request.{Request}

@@ -8,11 +8,11 @@ use Rattle.network.specs.declared.message.RequestKind.TheVariants as request
 use Rattle.network.specs.Traffic.{request_taken}
 use Rattle.directory_table.specs.declared.event.DirectoryEvent.{DirectoryEvent}
 use Rattle.directory_table.specs.declared.event.DirectoryEvent.TheVariants as home_event
-use Rattle.both_tables.specs.Tables.{Tables}
+use Rattle.tables.specs.Tables.{Tables}
 use Rattle.machine.specs.Block.{BlockState}
 use Rattle.machine.proofs.Counts.{only, sum_by-remove}
 use Rattle.machine.proofs.Seen.{from, is_gets, is_getm, is_puts, is_putm}
-use Rattle.pairs.specs.declared.side.Side.{Side}
+use Rattle.pairs.specs.declared.side.PairSide.{PairSide}
 use Rattle.pairs.specs.declared.pair.Pair.{Pair}
 use Rattle.pairs.specs.Pairs.{trimmed}
 use Rattle.pairs.specs.declared.steps.Sight.{Sight}
@@ -45,11 +45,11 @@ pub some-seen : (n : ℕ) (x : Sight) → n ≢ 0 → where_some n x ≡ x
 some-seen n x ne = ap (λ (t : Bool). if t then Unmoved else x) (ne_eqb n 0 ne)
 
 -- a PutS is the last sharer's or not
-abbrev pub puts_event : Side → DirectoryEvent
+abbrev pub puts_event : PairSide → DirectoryEvent
 puts_event s = if s.shares && not s.others then home_event.PutSLast else home_event.PutSNotLast
 
 -- and a PutM the owner's or not
-abbrev pub putm_event : Side → DirectoryEvent
+abbrev pub putm_event : PairSide → DirectoryEvent
 putm_event s = if is_owner s.owned then home_event.PutMOwner else home_event.PutMNonOwner
 
 module _ (tags : Tags) (b : BlockState) (index : ℕ) (r : Request) (e : Some r ≡ slice_get b.traffic.requests index) where
@@ -81,9 +81,9 @@ module _ (tags : Tags) (b : BlockState) (index : ℕ) (r : Request) (e : Some r 
   taken-side : (kind : RequestKind) (gets getm puts putm : ℕ) → r.kind ≡ kind → gets + is_gets kind ≡ (side tags b r.from.0).gets →
       getm + is_getm kind ≡ (side tags b r.from.0).getm → puts + is_puts kind ≡ (side tags b r.from.0).puts → putm + is_putm kind ≡
       (side tags b r.from.0).putm →
-      trimmed (let s : Side = side tags b r.from.0 in record s { gets = gets; getm = getm; puts = puts; putm = putm }) ≡ side tags left r.from.0
+      trimmed (let s : PairSide = side tags b r.from.0 in record s { gets = gets; getm = getm; puts = puts; putm = putm }) ≡ side tags left r.from.0
   taken-side kind gets getm puts putm same eg em ep eq =
-      let s : Side = side tags b r.from.0 in
+      let s : PairSide = side tags b r.from.0 in
       let z : Bool = data_count r.from.0 b.traffic.responses == 0 in
       let q : putm ≡ sum_by (from r.from.0 is_putm) (remove b.traffic.requests index) = omega (arith, own-left is_putm kind same, eq) in
       same_requests (record s { fresh_data = s.fresh_data || z }) _ _ _ _ _ _ _ _ _ _ (omega (arith, own-left is_gets kind same, eg))
@@ -103,7 +103,7 @@ module _ (tags : Tags) (b : BlockState) (index : ℕ) (r : Request) (e : Some r 
       taken-or n (inl none) h q = inl (omega (arith, none, h, q))
       taken-or n (inr one) h q = inr (λ zero_is. absurd (omega (arith, one, h, zero_is)))
 
-  taken-pair : (x : ℕ) (s : Side) → x ≢ r.from.0 → s ≡ side tags left r.from.0 → record (alpha tags b r.from.0 x) { first = s } ≡ alpha tags left r.from.0 x
+  taken-pair : (x : ℕ) (s : PairSide) → x ≢ r.from.0 → s ≡ side tags left r.from.0 → record (alpha tags b r.from.0 x) { first = s } ≡ alpha tags left r.from.0 x
   taken-pair x s ne same = λ i. record (alpha tags left r.from.0 x) { first = same i; second = sym (left-elsewhere x ne) i }
 
   some-there : (weight : RequestKind → ℕ) (kind : RequestKind) → r.kind ≡ kind → weight kind ≡ 1 → sum_by (from r.from.0 weight) b.traffic.requests ≢ 0

@@ -3,43 +3,40 @@ use Rattle.std.proofs.Common.{◌≡◌, ◌≢◌, ℕ, ◌≤◌, ◌+◌, Lis
 use Rattle.std.proofs.Common.{if◌then◌else◌, sum_by, arith, slice_get, IsSome}
 use Rattle.std.proofs.lemmas.Bool.{ne_eqb, leb-true}
 use Rattle.base.specs.declared.ids.CacheId.{CacheId}
-use Rattle.both_tables.specs.Tables.{Tables}
+use Rattle.tables.specs.Tables.{Tables}
 use Rattle.machine.specs.Block.{BlockState, IsBlockAmong}
 use Rattle.machine.specs.declared.decision.Decision.TheVariants.{AtLine}
 use Rattle.machine.specs.declared.decision.Origin.TheVariants as origin
-use Rattle.base.specs.declared.controller.entry.Entry.TheVariants as table_entry
+use Rattle.base.specs.declared.controller.entry.CellEntry.TheVariants as table_entry
 use Rattle.cache_table.specs.declared.state.CacheState.{CacheState}
 use Rattle.cache_table.specs.declared.actions.CacheAction.{CacheAction}
 use Rattle.cache_table.specs.Table as cache_table
 use Rattle.cache_table.specs.Table.{CacheEntry}
-use Rattle.cache_line.specs.declared.line.Line.{Line}
-use Rattle.cache_line.specs.declared.line.LineInput.TheVariants as line_input
-use Rattle.control.specs.Events.{event_at_line}
+use Rattle.control.specs.declared.line.Line.{Line}
+use Rattle.control.specs.declared.line.LineInput.TheVariants as line_input
+use Rattle.control.specs.LineEvents.{event_at_line}
 use Rattle.network.specs.declared.message.Response.{Response}
 use Rattle.machine.specs.Transition.{carried_out}
 use Rattle.pairs.specs.declared.steps.Rule.{Rule}
 use Rattle.pairs.specs.declared.steps.Sight.{Sight}
 use Rattle.pairs.specs.declared.steps.Party.TheVariants.{Nobody}
 use Rattle.pairs.specs.declared.steps.Sight.TheVariants.{Unmoved}
-use Rattle.pairs.specs.Sights.{sight, by_line, where_some}
+use Rattle.pairs.specs.Sights.{sight, by_line, where_some, settles, inv_acks}
 use Rattle.closing.proofs.Alpha.{Tags, alpha, Faithful}
 use Rattle.closing.proofs.Simulation.{IsBreach, Breaks, SimulatedBy, next-other}
-use Rattle.cache_line.specs.declared.line.Line.{Line}
-use Rattle.network.specs.Traffic.{Traffic}
-use Rattle.cache_line.specs.LineEffect.{taken_in, moved_on, line_after, line_completes}
+use Rattle.network.specs.Traffic.{Traffic, response_taken}
+use Rattle.control.specs.LineEffect.{taken_in, moved_on, line_after, line_completes}
 use Rattle.machine.proofs.Counts.{total}
 use Rattle.machine.proofs.Seen.{names, is_inv, inv_ack}
-use Rattle.pairs.specs.Sights.{settles, inv_acks}
 use Rattle.closing.proofs.Alpha.{Face, Owing, face, pair_of, owed_to}
 use Rattle.closing.proofs.LineActing.{AreTrueOn, AckCounts}
 use Rattle.closing.proofs.LineSettling.{SettlesAs}
 use Rattle.closing.proofs.LineGoes.{owed_on, Answered, line-goes}
 use Rattle.pairs.specs.declared.side.Lag.{Lag}
-use Rattle.pairs.specs.declared.side.Side.{Side}
+use Rattle.pairs.specs.declared.side.PairSide.{PairSide}
 use Rattle.pairs.specs.Pairs.{is_few_side}
 use Rattle.closing.proofs.Alpha.{side_of}
 use Rattle.closing.proofs.LineActing.{both-true}
-use Rattle.network.specs.Traffic.{response_taken}
 use Rattle.machine.proofs.Counts.{total}
 use Rattle.closing.proofs.Alpha.{data_count, Brings, BringsHome}
 use Rattle.closing.proofs.Sides.{same_pair}
@@ -55,7 +52,7 @@ if-not true x y = refl
 if-not false x y = refl
 
 -- at most one Data from the home is on its way to a cache
-pub few-dir : (s : Side) → is_few_side s ≡ true → s.dir_data ≤ 1
+pub few-dir : (s : PairSide) → is_few_side s ≡ true → s.dir_data ≤ 1
 few-dir s few =
     let link = both-true _ _ few in
     let fwd_getm = both-true _ _ link.0 in
@@ -74,7 +71,7 @@ module _ (tables : Tables) (caches : ℕ) (tags : Tags) (b : BlockState) (cache 
   w = response_taken index b.traffic
 
   -- the pair of the receiver and another, where its side is this
-  pub pair-taken : (l : Line) (s : Side) (f : Face) (x : ℕ) → x ≢ a → s ≡ side_of f tags b.home w a →
+  pub pair-taken : (l : Line) (s : PairSide) (f : Face) (x : ℕ) → x ≢ a → s ≡ side_of f tags b.home w a →
       record (pair_of (face_with tags b a l) (face tags b x) tags b.home b.traffic a x) { first = s } ≡ pair_of f (face tags b x) tags b.home w a x
   pair-taken l s f x ne same =
       same_pair _ _ _ _ _ _ _ _ _ _ (sym (taken-shared tags b.home b.traffic index r e (not-home cache r receives))) same
@@ -125,7 +122,7 @@ module _ (tables : Tables) (caches : ℕ) (tags : Tags) (b : BlockState) (cache 
         wires = wires-known;
         start = k.start (table_entry.Act next actions) acts;
         few = λ x ne far.
-            ap (λ (s : Side). is_few_side s)
+            ap (λ (s : PairSide). is_few_side s)
             (taken-elsewhere tags b.home b.traffic index r e (face tags b x) x (counts-nothing cache r x receives ne)) ∙ faithful.few x;
         settles = k.settles next;
         acks = λ u counts. inr (k.answers _ u (inv_acks actions) counts);

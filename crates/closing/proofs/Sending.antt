@@ -13,11 +13,11 @@ use Rattle.network.specs.declared.message.Response.TheVariants.{Data, InvAck}
 use Rattle.network.specs.Traffic.{Traffic, request_sent, response_sent, all_sent}
 use Rattle.cache_table.specs.declared.actions.CacheAction.{CacheAction}
 use Rattle.cache_table.specs.declared.actions.CacheAction.TheVariants as action
-use Rattle.cache_line.specs.LineEffect.{line_message}
-use Rattle.block_home.specs.declared.home.Home.{Home}
+use Rattle.control.specs.LineEffect.{line_message}
+use Rattle.control.specs.declared.home.Home.{Home}
 use Rattle.machine.proofs.Counts.{only}
 use Rattle.machine.proofs.Seen.{from, is_gets, is_getm, is_puts, is_putm, dir_data, owner_data, excl_data, home_data}
-use Rattle.pairs.specs.declared.side.Side.{Side}
+use Rattle.pairs.specs.declared.side.PairSide.{PairSide}
 use Rattle.pairs.specs.declared.steps.Party.{Party}
 use Rattle.pairs.specs.declared.steps.Party.TheVariants.{Nobody, First, Second, Third}
 use Rattle.pairs.specs.Sights.{line_acted, putm_sent, owner_data_sent, home_data_sent}
@@ -79,7 +79,7 @@ request-elsewhere f tags putm home w r c ne tag =
 
 module _ (f : Face) (tags : Tags) (home : Home) (w : Traffic) (a : CacheId) where
   gets-here : side_of f tags home (request_sent (record { kind = request.GetS; from = a }) w) a.0 ≡
-      (let s : Side = side_of f tags home w a.0 in record s { gets = s.gets + 1 })
+      (let s : PairSide = side_of f tags home w a.0 in record s { gets = s.gets + 1 })
   gets-here =
       let r : Request = record { kind = request.GetS; from = a } in
       let q : sum_by (from a.0 is_putm) (w.requests ++ r ∷ []) ≡ sum_by (from a.0 is_putm) w.requests = omega (arith, own-sent is_putm r w.requests a.0 refl) in
@@ -87,7 +87,7 @@ module _ (f : Face) (tags : Tags) (home : Home) (w : Traffic) (a : CacheId) wher
       (omega (arith, own-sent is_getm r w.requests a.0 refl)) (omega (arith, own-sent is_puts r w.requests a.0 refl)) q (λ i. tags.putm a.0 || (q i == 0))
 
   getm-here : side_of f tags home (request_sent (record { kind = request.GetM; from = a }) w) a.0 ≡
-      (let s : Side = side_of f tags home w a.0 in record s { getm = s.getm + 1 })
+      (let s : PairSide = side_of f tags home w a.0 in record s { getm = s.getm + 1 })
   getm-here =
       let r : Request = record { kind = request.GetM; from = a } in
       let q : sum_by (from a.0 is_putm) (w.requests ++ r ∷ []) ≡ sum_by (from a.0 is_putm) w.requests = omega (arith, own-sent is_putm r w.requests a.0 refl) in
@@ -95,7 +95,7 @@ module _ (f : Face) (tags : Tags) (home : Home) (w : Traffic) (a : CacheId) wher
       (own-sent is_getm r w.requests a.0 refl) (omega (arith, own-sent is_puts r w.requests a.0 refl)) q (λ i. tags.putm a.0 || (q i == 0))
 
   puts-here : side_of f tags home (request_sent (record { kind = request.PutS; from = a }) w) a.0 ≡
-      (let s : Side = side_of f tags home w a.0 in record s { puts = s.puts + 1 })
+      (let s : PairSide = side_of f tags home w a.0 in record s { puts = s.puts + 1 })
   puts-here =
       let r : Request = record { kind = request.PutS; from = a } in
       let q : sum_by (from a.0 is_putm) (w.requests ++ r ∷ []) ≡ sum_by (from a.0 is_putm) w.requests = omega (arith, own-sent is_putm r w.requests a.0 refl) in

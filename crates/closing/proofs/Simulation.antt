@@ -5,20 +5,21 @@ use Rattle.std.proofs.lemmas.Bool.{ne_eqb}
 use Rattle.base.specs.declared.ids.CacheId.{CacheId}
 use Rattle.base.specs.declared.step.Step.{Step}
 use Rattle.base.specs.declared.step.Outcome.TheVariants as outcome
-use Rattle.both_tables.specs.Tables.{Tables}
+use Rattle.tables.specs.Tables.{Tables}
 use Rattle.machine.specs.Block.{BlockState}
 use Rattle.machine.specs.declared.decision.Decision.{Decision}
 use Rattle.machine.specs.declared.decision.Decision.TheVariants.{Refused, AtLine, AtHome}
 use Rattle.base.specs.declared.step.Outcome.{Outcome}
-use Rattle.base.specs.declared.controller.entry.Entry.TheVariants as table_entry
+use Rattle.base.specs.declared.controller.entry.CellEntry.TheVariants as table_entry
 use Rattle.cache_table.specs.declared.state.CacheState.{CacheState}
 use Rattle.cache_table.specs.declared.actions.CacheAction.{CacheAction}
 use Rattle.cache_table.specs.Table as cache_table
 use Rattle.cache_table.specs.Table.{CacheEntry}
-use Rattle.cache_line.specs.declared.line.Line.{Line}
-use Rattle.control.specs.Events.{event_at_line, event_at_home}
-use Rattle.cache_line.specs.declared.line.LineInput.{LineInput}
-use Rattle.block_home.specs.declared.home.HomeInput.{HomeInput}
+use Rattle.control.specs.declared.line.Line.{Line}
+use Rattle.control.specs.LineEvents.{event_at_line}
+use Rattle.control.specs.HomeEvents.{event_at_home}
+use Rattle.control.specs.declared.line.LineInput.{LineInput}
+use Rattle.control.specs.declared.home.HomeInput.{HomeInput}
 use Rattle.machine.specs.declared.decision.Origin.{Origin}
 use Rattle.directory_table.specs.declared.state.DirectoryState.{DirectoryState}
 use Rattle.directory_table.specs.declared.actions.DirectoryAction.{DirectoryAction}
@@ -26,8 +27,7 @@ use Rattle.directory_table.specs.Table as directory_table
 use Rattle.directory_table.specs.Table.{DirectoryEntry}
 use Rattle.machine.proofs.Seen.{from}
 use Rattle.directory_table.specs.declared.event.DirectoryEvent.{DirectoryEvent}
-use Rattle.machine.specs.Transition.{Transition, transition, carried_out, by_line_entry, by_home_entry}
-use Rattle.machine.specs.Transition.{at_line as line_at}
+use Rattle.machine.specs.Transition.{Transition, transition, carried_out, by_line_entry, by_home_entry, at_line as line_at}
 use Rattle.machine.proofs.LineValues.{FitsLatest}
 use Rattle.pairs.specs.declared.pair.Pair.{Pair}
 use Rattle.pairs.specs.Pairs.{thirds_fit}

@@ -4,8 +4,8 @@ use Rattle.network.specs.declared.message.Forward.{Forward}
 use Rattle.network.specs.Traffic.{Traffic, link, all_sent}
 use Rattle.control.specs.LineEffect.{line_sends, taken_in, requestor_of}
 use Rattle.control.specs.HomeEffect.{home_sends, brought_by}
-use Rattle.block_home.specs.declared.home.HomeInput.{HomeInput}
-use Rattle.block_home.specs.declared.home.HomeInput.TheVariants as home_input
+use Rattle.control.specs.declared.home.HomeInput.{HomeInput}
+use Rattle.control.specs.declared.home.HomeInput.TheVariants as home_input
 use Rattle.machine.specs.declared.decision.Origin.{Origin}
 use Rattle.machine.specs.declared.decision.Origin.TheVariants as origin
 use Rattle.machine.specs.declared.decision.Decision.{Decision}

@@ -7,12 +7,12 @@ use Rattle.base.specs.declared.ids.Place.TheVariants.{Dir, Cache}
 use Rattle.network.specs.declared.message.Response.{Response}
 use Rattle.network.specs.declared.message.Response.TheVariants.{Data, InvAck, DataExcl}
 use Rattle.network.specs.Traffic.{Traffic, response_taken}
-use Rattle.cache_line.specs.declared.line.Line.{Line}
-use Rattle.cache_line.specs.Events.{is_count}
-use Rattle.block_home.specs.declared.home.Home.{Home}
+use Rattle.control.specs.declared.line.Line.{Line}
+use Rattle.control.specs.LineEvents.{is_count}
+use Rattle.control.specs.declared.home.Home.{Home}
 use Rattle.machine.proofs.Counts.{only, sum_by-remove}
 use Rattle.machine.proofs.Seen.{dir_data, owner_data, excl_data, home_data, inv_ack, ack_number, late_of}
-use Rattle.pairs.specs.declared.side.Side.{Side}
+use Rattle.pairs.specs.declared.side.PairSide.{PairSide}
 use Rattle.pairs.specs.Sights.{with_data}
 use Rattle.machine.specs.Block.{BlockState}
 use Rattle.closing.proofs.Alpha.{Owing, Tags, Face, owing, side_of, shared_of, data_count}
@@ -96,11 +96,11 @@ module _ (tags : Tags) (home : Home) (w : Traffic) (i : ℕ) (r : Response) (e :
       same_home_data (shared_of tags home w) _ _ _ _ n (λ j. tags.home_data || (n j == 0))
 
 -- THE RECEIVER
-abbrev with_taken : Side → Bool → Bool → ℕ → ℕ → ℕ → Bool → Side
+abbrev with_taken : PairSide → Bool → Bool → ℕ → ℕ → ℕ → Bool → PairSide
 with_taken s low fresh_putm dir owner excl fresh_data =
     record s { low = low; fresh_putm = fresh_putm; dir_data = dir; owner_data = owner; excl_data = excl; fresh_data = fresh_data }
 
-same_taken : (s : Side) (l l2 p p2 : Bool) (d d2 o o2 x x2 : ℕ) (f f2 : Bool) → l ≡ l2 → p ≡ p2 → d ≡ d2 → o ≡ o2 → x ≡ x2 → f ≡ f2 →
+same_taken : (s : PairSide) (l l2 p p2 : Bool) (d d2 o o2 x x2 : ℕ) (f f2 : Bool) → l ≡ l2 → p ≡ p2 → d ≡ d2 → o ≡ o2 → x ≡ x2 → f ≡ f2 →
     with_taken s l p d o x f ≡ with_taken s l2 p2 d2 o2 x2 f2
 same_taken s l l2 p p2 d d2 o o2 x x2 f f2 el ep ed eo ex ef = λ i. with_taken s (el i) (ep i) (ed i) (eo i) (ex i) (ef i)
 
@@ -119,7 +119,7 @@ valued l value acks = record l { value = value; acks = acks }
 
 module _ (tags : Tags) (home : Home) (w : Traffic) (i : ℕ) (r : Response) (e : Some r ≡ slice_get w.responses i) (c : ℕ) (l : Line) (fresh : Bool)
     (owed : Owing) where
-  abbrev before : Side
+  abbrev before : PairSide
   before = side_of (record { line = l; fresh = fresh; owed = owed }) tags home w c
 
   abbrev told : Bool

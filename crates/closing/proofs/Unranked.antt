@@ -1,7 +1,7 @@
 -- The pairs of ranked ones that no step leaves are closed.
 use Rattle.std.proofs.Common.{◌≡◌, List, [], ◌∷◌, refl, sym, subst, ◌∙◌, ap, Bool, true, false, not, ◌&&◌, Contains, IsTrue}
 use Rattle.std.specs.Global.{Vec}
-use Rattle.both_tables.specs.Tables.{Tables}
+use Rattle.tables.specs.Tables.{Tables}
 use Rattle.pairs.specs.declared.pair.Pair.{Pair}
 use Rattle.pairs.specs.declared.steps.Party.{Party}
 use Rattle.pairs.specs.declared.steps.Party.TheVariants.{Nobody, First, Second, Third}
@@ -9,7 +9,7 @@ use Rattle.pairs.specs.declared.steps.Rule.{Rule}
 use Rattle.pairs.specs.declared.steps.Sight.{Sight}
 use Rattle.pairs.specs.declared.steps.Sight.TheVariants.{Unmoved, Lost, Spoilt, Seen}
 use Rattle.pairs.specs.Pairs.{swapped, fits}
-use Rattle.cache_line.specs.LineEffect.{is_reader, is_writer}
+use Rattle.control.specs.LineEffect.{is_reader, is_writer}
 use Rattle.pairs.specs.Sights.{sight, home_data_seen}
 use Rattle.closing.specs.declared.following.Followed.{Followed}
 use Rattle.closing.specs.declared.ranked.RankedPair.{RankedPair}

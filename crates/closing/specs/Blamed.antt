@@ -1,6 +1,6 @@
 -- Lists of ranked pairs that show that no message is ever stuck: where all messages of a cache are held, another cache is to blame, which was served earlier.
 use Rattle.std.specs.Prelude.{◌≡◌, ◌≢◌, ◌⊎◌, ◌+◌, ℕ, List, [], ◌∷◌, Option, Some, None, Bool, true, false, not, ◌&&◌, ◌||◌, ◌==◌, if◌then◌else◌, nat_le, Contains}
-use Rattle.base.specs.declared.controller.entry.Entry.TheVariants.{Stall}
+use Rattle.base.specs.declared.controller.entry.CellEntry.TheVariants.{Stall}
 use Rattle.network.specs.declared.message.ForwardKind.{ForwardKind}
 use Rattle.network.specs.declared.message.ForwardKind.TheVariants.{FwdGetS, FwdGetM, Inv, PutAck}
 use Rattle.cache_table.specs.declared.state.CacheState.{CacheState}
@@ -13,11 +13,11 @@ use Rattle.directory_table.specs.declared.event.DirectoryEvent.{DirectoryEvent}
 use Rattle.directory_table.specs.declared.event.DirectoryEvent.TheVariants as home_event
 use Rattle.directory_table.specs.Table as directory_table
 use Rattle.directory_table.specs.Table.{DirectoryEntry}
-use Rattle.cache_line.specs.Events.{forward_event}
-use Rattle.both_tables.specs.Tables.{Tables}
+use Rattle.control.specs.LineEvents.{forward_event}
+use Rattle.tables.specs.Tables.{Tables}
 use Rattle.pairs.specs.declared.link.LinkPlace.{LinkPlace}
 use Rattle.pairs.specs.declared.side.Lag.{Lag}
-use Rattle.pairs.specs.declared.side.Side.{Side}
+use Rattle.pairs.specs.declared.side.PairSide.{PairSide}
 use Rattle.pairs.specs.declared.pair.Shared.{Shared}
 use Rattle.pairs.specs.declared.pair.Pair.{Pair}
 use Rattle.pairs.specs.Pairs.{marked, own_marked}
@@ -52,14 +52,14 @@ holds_head tables s [] = true
 holds_head tables s (x ∷ xs) = line_holds tables s (forward_event x.kind)
 
 -- what a PutS or a PutM of a cache is at the home
-abbrev pub puts_event : Side → DirectoryEvent
+abbrev pub puts_event : PairSide → DirectoryEvent
 puts_event s = if s.shares && not s.others then home_event.PutSLast else home_event.PutSNotLast
 
-abbrev pub putm_event : Side → DirectoryEvent
+abbrev pub putm_event : PairSide → DirectoryEvent
 putm_event s = if is_owner s.owned then home_event.PutMOwner else home_event.PutMNonOwner
 
 -- requests of a cache
-abbrev pub holds_requests : Tables → DirectoryState → Side → Bool
+abbrev pub holds_requests : Tables → DirectoryState → PairSide → Bool
 holds_requests tables h s =
     ((s.gets == 0) || home_holds tables h home_event.GetS)
     && ((s.getm == 0) || home_holds tables h home_event.GetM)
@@ -72,14 +72,14 @@ holds_dir_data tables s None = true
 holds_dir_data tables s (Some lag) = line_holds tables s (if is_level lag then event.DataDirZero else event.DataDirMore)
 
 -- Data on their way to a cache
-abbrev pub holds_data : Tables → Side → Bool
+abbrev pub holds_data : Tables → PairSide → Bool
 holds_data tables s =
     ((s.dir_data == 0) || holds_dir_data tables s.state (acks_awaited s.lag s.owed))
     && ((s.owner_data == 0) || line_holds tables s.state event.DataOwner)
     && ((s.excl_data == 0) || line_holds tables s.state event.DataDirExcl)
 
 -- all messages of a cache but Inv-Acks on their way to it
-abbrev pub holds_side : Tables → DirectoryState → Side → Bool
+abbrev pub holds_side : Tables → DirectoryState → PairSide → Bool
 holds_side tables h s = holds_head tables s.state s.link && holds_requests tables h s && holds_data tables s
 
 -- Data on their way to the home
@@ -93,15 +93,15 @@ is_held tables p = holds_home_data tables p.shared && holds_side tables p.shared
 -- WHO IS TO BLAME
 
 -- how many requests of a cache are on their way
-abbrev pub requests_of : Side → ℕ
+abbrev pub requests_of : PairSide → ℕ
 requests_of s = s.gets + s.getm + s.puts + s.putm
 
 -- whether any message of a cache is
-abbrev pub is_noisy : Side → Bool
+abbrev pub is_noisy : PairSide → Bool
 is_noisy s = is_busy s || not (requests_of s == 0)
 
 -- a forward of this kind that names the first is on another cache's link; where acks are owed, no Inv-Ack can be what is held
-abbrev pub is_named : Tables → ForwardKind → Side → Bool
+abbrev pub is_named : Tables → ForwardKind → PairSide → Bool
 is_named tables FwdGetS s = not (nat_le s.fwd_gets (own_marked FwdGetS s.link))
 is_named tables FwdGetM s = not (nat_le s.fwd_getm (own_marked FwdGetM s.link))
 is_named tables Inv s =

@@ -1,7 +1,7 @@
 -- Sets of pairs that no step leaves.
 use Rattle.std.specs.Prelude.{◌≡◌, List, [], ◌∷◌, Bool, true, false, not, ◌&&◌, IsTrue, Contains}
 use Rattle.control.specs.LineEffect.{is_reader, is_writer}
-use Rattle.both_tables.specs.Tables.{Tables}
+use Rattle.tables.specs.Tables.{Tables}
 use Rattle.pairs.specs.declared.link.LinkPlace.{LinkPlace}
 use Rattle.pairs.specs.declared.pair.Pair.{Pair}
 use Rattle.pairs.specs.Pairs.{swapped, opened_pair, fits}

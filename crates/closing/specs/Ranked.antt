@@ -3,9 +3,9 @@ use Rattle.std.specs.Prelude.{◌≡◌, ◌+◌, ℕ, List, [], ◌∷◌, Bool
 use Rattle.network.specs.declared.message.ForwardKind.TheVariants.{FwdGetS}
 use Rattle.directory_table.specs.declared.state.DirectoryState.{DirectoryState}
 use Rattle.directory_table.specs.declared.state.DirectoryState.TheVariants.{SD}
-use Rattle.both_tables.specs.Tables.{Tables}
+use Rattle.tables.specs.Tables.{Tables}
 use Rattle.pairs.specs.declared.link.LinkPlace.{LinkPlace}
-use Rattle.pairs.specs.declared.side.Side.{Side}
+use Rattle.pairs.specs.declared.side.PairSide.{PairSide}
 use Rattle.pairs.specs.declared.pair.Pair.{Pair}
 use Rattle.pairs.specs.Pairs.{swapped, opened_pair, fits, data_to, same_kind}
 use Rattle.pairs.specs.declared.steps.Party.{Party}
@@ -30,11 +30,11 @@ abbrev pub turned_pair : RankedPair → RankedPair
 turned_pair r = record { pair = swapped r.pair; order = turned r.order }
 
 -- whether Data, forwards or acks are on their way to a cache
-abbrev pub is_busy : Side → Bool
+abbrev pub is_busy : PairSide → Bool
 is_busy s = not (data_to s == 0) || not (length s.link == 0) || s.owed
 
 -- or forwards that name it
-abbrev pub is_open : Side → Bool
+abbrev pub is_open : PairSide → Bool
 is_open s = is_busy s || not (s.fwd_gets == 0) || not (s.fwd_getm == 0)
 
 -- an order is kept while both caches are open

@@ -11,10 +11,10 @@ ghost use Rattle.closing.specs.inner.Told.{AreBalanced, IsBalanced, KeepsBalance
 
 use crate::following::Followed;
 use crate::ranked::RankedPair;
-use both_tables::Tables;
 use directory_table::DirectoryState;
 use network::ForwardKind;
 use pairs::{Link, Pair, Party, Shared, Sight, home_data_seen};
+use tables::Tables;
 
 /// Whether each of these steps of ranked pairs, place by place, keeps the balance, and Data that comes to the home does.
 pub(crate) fn are_balanced(tables: &Tables, list: &[RankedPair], steps: &[Vec<Followed>]) -> bool

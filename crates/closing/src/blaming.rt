@@ -11,11 +11,11 @@ use crate::balancing::are_balanced;
 use crate::following::Followed;
 use crate::holding::{is_held, line_holds};
 use crate::ranked::{Order, RankedPair, is_busy, is_open};
-use both_tables::Tables;
 use cache_table::{CacheEvent, CacheState};
 use directory_table::DirectoryState;
 use network::ForwardKind;
-use pairs::{Pair, Side};
+use pairs::{Pair, PairSide};
+use tables::Tables;
 
 /// Whether wherever messages of these ranked pairs are held another cache is to blame that was served earlier, and each Data that a
 /// home waits for comes.
@@ -56,14 +56,14 @@ fn line_serves_asks(tables: &Tables, state: CacheState) -> bool
 }
 
 /// Whether no request of a cache is on its way.
-fn lacks_requests(side: &Side) -> bool
+fn lacks_requests(side: &PairSide) -> bool
     ensures { result ≡ (blamed.requests_of side.now == 0) }
 {
     side.gets == 0 && side.getm == 0 && side.puts == 0 && side.putm == 0
 }
 
 /// Whether any message of a cache is on its way.
-fn is_noisy(side: &Side) -> bool
+fn is_noisy(side: &PairSide) -> bool
     ensures { result ≡ blamed.is_noisy side.now }
 {
     is_busy(side) || !lacks_requests(side)
@@ -88,7 +88,7 @@ fn awaits_home(pair: &Pair) -> bool
 }
 
 /// Whether a forward of this kind that names a cache is on another one's link, and what is held isn't an Inv-Ack.
-fn is_named(tables: &Tables, kind: ForwardKind, side: &Side) -> bool
+fn is_named(tables: &Tables, kind: ForwardKind, side: &PairSide) -> bool
     ensures { result ≡ blamed.is_named tables.now kind side.now }
 {
     match kind {

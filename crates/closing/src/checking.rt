@@ -1,7 +1,7 @@
 //! Whether no step leaves a list of ranked pairs.
 
 ghost use Rattle.std.specs.Prelude.{◌≡◌, ◌⊎◌, ℕ, Bool, Contains, IfOk, IfSome, IsTrue, Some, false, slice_get, true};
-ghost use Rattle.cache_line.specs.LineEffect.{is_reader, is_writer};
+ghost use Rattle.control.specs.LineEffect.{is_reader, is_writer};
 ghost use Rattle.pairs.specs.Marking.{IsMarked};
 ghost use Rattle.pairs.specs.Pairs.{is_few};
 ghost use Rattle.pairs.specs.Sights.{home_data_seen};
@@ -11,13 +11,13 @@ ghost use Rattle.closing.specs.inner.Told.{AreSound, AreTold, IsFollowedBy, IsSo
 use crate::following::{Breach, Followed, steps_of};
 use crate::glueing::are_glued;
 use crate::index::{Index, is_listed};
-use crate::numbering::Numbers;
+use crate::numbering::ViewNumbers;
 use crate::ranked::RankedPair;
 use base::NoMemory;
-use both_tables::Tables;
-use cache_line::{may_read, may_write};
+use control::{may_read, may_write};
 use pairs::{Pair, Party, Sight, home_data_seen};
 use std::alloc::Global;
+use tables::Tables;
 
 /// The steps of each of these ranked pairs, place by place, if none of them leaves the list, meets a blank cell or returns a stale
 /// value, and no writer stands beside a reader. A list that doesn't have pairs that begin alike together is turned down too.
@@ -32,7 +32,7 @@ pub(crate) fn kept_steps(
     if !is_listed(list, &index, &RankedPair::opened()) || !are_sound(tables, list, &index) {
         return Ok(None);
     }
-    let Some(numbers) = Numbers::of(alloc, list)? else {
+    let Some(numbers) = ViewNumbers::of(alloc, list)? else {
         return Ok(None);
     };
     let Some(steps) = all_steps(alloc, tables, list, &index)? else {

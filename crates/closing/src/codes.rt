@@ -5,7 +5,7 @@ ghost use Rattle.std.specs.Prelude.{◌<◌};
 use crate::ranked::{Order, RankedPair};
 use base::controller::Listed;
 use network::ForwardKind;
-use pairs::{Lag, Link, Marks, Owned, Pair, Shared, Side, Waiting};
+use pairs::{Lag, Link, Marks, Owned, Pair, PairSide, Shared, Waiting};
 
 /// A number with a few more bits behind its own.
 fn with(code: u128, bits: u32, more: u128) -> u128
@@ -24,7 +24,7 @@ fn with_flag(code: u128, flag: bool) -> u128 {
 }
 
 /// The number of what all caches see and of one of them.
-pub(crate) fn view_code(shared: &Shared, side: &Side) -> u128 {
+pub(crate) fn view_code(shared: &Shared, side: &PairSide) -> u128 {
     side_code(shared_code(0, shared), side)
 }
 
@@ -54,7 +54,7 @@ fn shared_code(code: u128, shared: &Shared) -> u128 {
     with_flag(code, shared.fresh_home_data)
 }
 
-fn side_code(code: u128, side: &Side) -> u128 {
+fn side_code(code: u128, side: &PairSide) -> u128 {
     let mut code = with(code, 4, place_of(side.state));
     code = with(code, 2, waiting_number(side.waits));
     code = with_flag(code, side.fresh);

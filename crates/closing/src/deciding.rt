@@ -14,9 +14,9 @@ use crate::gathering::{Refusal, gather};
 use crate::index::{Index, is_found};
 use crate::ranked::RankedPair;
 use base::NoMemory;
-use both_tables::Tables;
 use pairs::Pair;
 use std::alloc::Global;
+use tables::Tables;
 
 /// How far it is shown that nothing gets stuck under tables.
 #[derive(Clone, Copy, Debug, PartialEq, Eq)]

@@ -7,9 +7,9 @@ ghost use Rattle.pairs.specs.Pairs.{is_few};
 ghost use Rattle.pairs.specs.Sights as sights;
 ghost use Rattle.closing.specs.inner.Told.{IsTold, TellsAll};
 
-use both_tables::Tables;
 use pairs::{Pair, Party, Rule, Sight, each_rule_is_listed, sight};
 use std::alloc::{AllocFailed, Global};
+use tables::Tables;
 
 /// A step that a pair sees, the cache besides the first that it concerns, and the pair that it leads to.
 #[derive(Clone, Copy, Debug)]

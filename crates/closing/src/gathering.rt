@@ -6,10 +6,10 @@ use crate::glueing::{are_apart, glued, is_one};
 use crate::listing::{Ends, Listing};
 use crate::ranked::RankedPair;
 use base::NoMemory;
-use both_tables::Tables;
-use cache_line::{may_read, may_write};
+use control::{may_read, may_write};
 use pairs::{Pair, Party, Rule, Sight, home_data_seen};
 use std::alloc::Global;
+use tables::Tables;
 
 /// The most ranked pairs that are gathered, each counted in both orders.
 pub const MOST_PAIRS: usize = 40_000;

@@ -8,7 +8,7 @@ ghost use Rattle.closing.specs.inner.Told.{AreOne, GlueTogether, Glues, GluesAt,
 
 use crate::following::Followed;
 use crate::index::{Index, is_listed};
-use crate::numbering::{Numbers, Span};
+use crate::numbering::{Span, ViewNumbers};
 use crate::ranked::RankedPair;
 use pairs::{Link, Marks, Pair, Party};
 
@@ -95,7 +95,7 @@ pub(crate) fn is_one(one: &Followed, other: &Followed) -> bool
 fn is_glued_within(
     list: &[RankedPair],
     index: &Index,
-    numbers: &Numbers,
+    numbers: &ViewNumbers,
     span: Span,
     second: usize,
     neighbour: &RankedPair,
@@ -116,7 +116,7 @@ fn is_glued_within(
 fn is_glued_over(
     list: &[RankedPair],
     index: &Index,
-    numbers: &Numbers,
+    numbers: &ViewNumbers,
     place: usize,
     second: usize,
     neighbour: &RankedPair,
@@ -136,7 +136,7 @@ fn is_glued_over(
 fn is_glued_to(
     list: &[RankedPair],
     index: &Index,
-    numbers: &Numbers,
+    numbers: &ViewNumbers,
     span: Span,
     second: usize,
     neighbour: &RankedPair,
@@ -158,7 +158,7 @@ fn is_glued_to(
 fn may_be_glued(
     list: &[RankedPair],
     index: &Index,
-    numbers: &Numbers,
+    numbers: &ViewNumbers,
     span: Span,
     second: usize,
     neighbour: &RankedPair,
@@ -176,7 +176,7 @@ fn may_be_glued(
 fn are_glued_within(
     list: &[RankedPair],
     index: &Index,
-    numbers: &Numbers,
+    numbers: &ViewNumbers,
     span: Span,
     second: usize,
     neighbour: &RankedPair,
@@ -197,7 +197,7 @@ fn are_glued_within(
 fn is_glued_at(
     list: &[RankedPair],
     index: &Index,
-    numbers: &Numbers,
+    numbers: &ViewNumbers,
     steps: &[Vec<Followed>],
     place: usize,
 ) -> bool
@@ -222,7 +222,7 @@ fn is_glued_at(
 fn is_glued_beside(
     list: &[RankedPair],
     index: &Index,
-    numbers: &Numbers,
+    numbers: &ViewNumbers,
     steps: &[Vec<Followed>],
     ranked: &RankedPair,
     mine: &[Followed],
@@ -244,7 +244,7 @@ fn is_glued_beside(
 fn is_glued_with(
     list: &[RankedPair],
     index: &Index,
-    numbers: &Numbers,
+    numbers: &ViewNumbers,
     steps: &[Vec<Followed>],
     ranked: &RankedPair,
     mine: &[Followed],
@@ -268,7 +268,7 @@ fn is_glued_with(
 pub(crate) fn are_glued(
     list: &[RankedPair],
     index: &Index,
-    numbers: &Numbers,
+    numbers: &ViewNumbers,
     steps: &[Vec<Followed>],
 ) -> bool
     ensures { IsTrue result → (place : ℕ) → place < length list.now → GluesAt list.now numbers.now steps.now place }

@@ -4,20 +4,20 @@ ghost use Rattle.std.specs.Prelude.{◌≡◌};
 ghost use Rattle.pairs.specs.Sights.{acks_awaited, is_owner};
 ghost use Rattle.closing.specs.Blamed as blamed;
 
-use base::controller::Entry;
-use both_tables::Tables;
+use base::controller::CellEntry;
 use cache_table::{CacheEvent, CacheState};
 use directory_table::{DirectoryEvent, DirectoryState};
 use network::ForwardKind;
-use pairs::{Lag, Link, Owned, Pair, Shared, Side};
+use pairs::{Lag, Link, Owned, Pair, PairSide, Shared};
+use tables::Tables;
 
 /// Whether an event is held at a line in a state.
 pub(crate) fn line_holds(tables: &Tables, state: CacheState, event: CacheEvent) -> bool
     ensures { result ≡ blamed.line_holds tables.now state event }
 {
     match tables.cache.entry(state, event) {
-        Entry::Stall => true,
-        Entry::Blank | Entry::Act { .. } => false,
+        CellEntry::Stall => true,
+        CellEntry::Blank | CellEntry::Act { .. } => false,
     }
 }
 
@@ -26,8 +26,8 @@ fn home_holds(tables: &Tables, state: DirectoryState, event: DirectoryEvent) -> 
     ensures { result ≡ blamed.home_holds tables.now state event }
 {
     match tables.directory.entry(state, event) {
-        Entry::Stall => true,
-        Entry::Blank | Entry::Act { .. } => false,
+        CellEntry::Stall => true,
+        CellEntry::Blank | CellEntry::Act { .. } => false,
     }
 }
 
@@ -50,7 +50,7 @@ fn holds_head(tables: &Tables, state: CacheState, link: &Link) -> bool
 }
 
 /// The event that a PutS of a cache is at the home.
-fn put_s_event(side: &Side) -> DirectoryEvent
+fn put_s_event(side: &PairSide) -> DirectoryEvent
     ensures { result ≡ blamed.puts_event side.now }
 {
     if side.shares && !side.others {
@@ -61,7 +61,7 @@ fn put_s_event(side: &Side) -> DirectoryEvent
 }
 
 /// The event that a PutM of a cache is at the home.
-fn put_m_event(side: &Side) -> DirectoryEvent
+fn put_m_event(side: &PairSide) -> DirectoryEvent
     ensures { result ≡ blamed.putm_event side.now }
 {
     match side.owned {
@@ -71,7 +71,7 @@ fn put_m_event(side: &Side) -> DirectoryEvent
 }
 
 /// Whether all requests of a cache are held.
-fn holds_requests(tables: &Tables, home: DirectoryState, side: &Side) -> bool
+fn holds_requests(tables: &Tables, home: DirectoryState, side: &PairSide) -> bool
     ensures { result ≡ blamed.holds_requests tables.now home side.now }
 {
     (side.gets == 0 || home_holds(tables, home, DirectoryEvent::GetS))
@@ -81,7 +81,7 @@ fn holds_requests(tables: &Tables, home: DirectoryState, side: &Side) -> bool
 }
 
 /// Whether Data from the home are held at a cache's line. Where it isn't known how many acks that then awaits, they count as held.
-fn holds_dir_data(tables: &Tables, side: &Side) -> bool
+fn holds_dir_data(tables: &Tables, side: &PairSide) -> bool
     ensures { result ≡ blamed.holds_dir_data tables.now side.now.state (acks_awaited side.now.lag side.now.owed) }
 {
     match side.lag.acks_awaited(side.owed) {
@@ -92,7 +92,7 @@ fn holds_dir_data(tables: &Tables, side: &Side) -> bool
 }
 
 /// Whether all Data on their way to a cache are held.
-fn holds_data(tables: &Tables, side: &Side) -> bool
+fn holds_data(tables: &Tables, side: &PairSide) -> bool
     ensures { result ≡ blamed.holds_data tables.now side.now }
 {
     (side.dir_data == 0 || holds_dir_data(tables, side))
@@ -101,7 +101,7 @@ fn holds_data(tables: &Tables, side: &Side) -> bool
 }
 
 /// Whether all messages of a cache are held, but for Inv-Acks on their way to it.
-fn holds_side(tables: &Tables, home: DirectoryState, side: &Side) -> bool
+fn holds_side(tables: &Tables, home: DirectoryState, side: &PairSide) -> bool
     ensures { result ≡ blamed.holds_side tables.now home side.now }
 {
     holds_head(tables, side.state, &side.link)

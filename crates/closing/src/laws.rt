@@ -1,7 +1,7 @@
 ghost use Rattle.std.specs.Prelude.{◌≡◌, ℕ, List, length};
 ghost use Rattle.base.specs.Extent.{Extent, IsWithinLimits};
 ghost use Rattle.base.specs.declared.step.Step.{Step};
-ghost use Rattle.both_tables.specs.Tables.{Tables};
+ghost use Rattle.tables.specs.Tables.{Tables};
 ghost use Rattle.machine.specs.Coherence.{Safe};
 ghost use Rattle.machine.specs.Machine.{after, opened};
 ghost use Rattle.machine.specs.Unstuck.{Flowing, Unstuck};

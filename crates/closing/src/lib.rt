@@ -1,7 +1,8 @@
-//! Sets of pairs of caches that no step leaves: what is so of every pair of caches of a block, whatever the tables, is found
-//! and checked on pairs alone.
+//! Lists of pairs of caches that no step leaves: tables that have one are safe for any number of caches. Ranked pairs
+//! also tell which of two caches the home served earlier, and tables under which blame works in a list of these never get
+//! stuck.
 //!
-//! The definitions stand in `specs/`, and the law about them in `laws`.
+//! The definitions stand in `specs/`, and the laws about them in `laws`. The code gathers such lists, and checks them.
 #![tactic(auto)]
 
 mod balancing;

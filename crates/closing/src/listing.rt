@@ -5,7 +5,7 @@ use crate::following::Followed;
 use crate::index::Index;
 use crate::ranked::RankedPair;
 use base::NoMemory;
-use pairs::{Shared, Side};
+use pairs::{PairSide, Shared};
 use std::alloc::Global;
 use std::collections::HashMap;
 
@@ -43,7 +43,12 @@ impl Listing {
     }
 
     /// The number of a view, which gets one if it has none.
-    fn number(&mut self, alloc: Global, shared: &Shared, side: &Side) -> Result<usize, NoMemory> {
+    fn number(
+        &mut self,
+        alloc: Global,
+        shared: &Shared,
+        side: &PairSide,
+    ) -> Result<usize, NoMemory> {
         let code = view_code(shared, side);
         if let Some(number) = self.numbers.get(&code) {
             return Ok(*number);

@@ -1,12 +1,12 @@
 //! Numbers for the views of a list of ranked pairs, so that those that begin alike are gone over together.
 
 ghost use Rattle.std.specs.Prelude.{◌≡◌, ◌<◌, ◌↔◌, ℕ, if◌then◌else◌, IfOk, IfSome, IsTrue, Some, slice_get};
-ghost use Rattle.closing.specs.inner.Numbered.{AreDistinct, AreNumbered, AreWithin, HaveNumbers, IsNumber, first_view, second_view};
+ghost use Rattle.closing.specs.inner.Numbered.{AreDistinct, AreNumbered, AreWithin, HaveNumbers, IsNumberOfView, first_view, second_view};
 
 use crate::codes::view_code;
 use crate::ranked::RankedPair;
 use base::NoMemory;
-use pairs::{Pair, Shared, Side};
+use pairs::{Pair, PairSide, Shared};
 use std::alloc::Global;
 use std::collections::HashMap;
 
@@ -14,7 +14,7 @@ use std::collections::HashMap;
 #[derive(Clone, Copy, Debug)]
 pub struct View {
     pub shared: Shared,
-    pub side: Side,
+    pub side: PairSide,
 }
 
 /// The places from one on and below another.
@@ -27,7 +27,7 @@ pub struct Span {
 /// The views of the pairs of a list, each once; of each pair the numbers of its first and of its second one; and of each view
 /// the span of the list in which all pairs stand that begin with it.
 #[derive(Drop)]
-pub struct Numbers {
+pub struct ViewNumbers {
     pub views: Vec<View>,
     pub firsts: Vec<usize>,
     pub seconds: Vec<usize>,
@@ -63,7 +63,7 @@ struct Views {
 /// The number of a view.
 fn number_of(views: &[View], known: &HashMap<u128, usize>, view: &View) -> Option<usize>
     requires { AreDistinct views.now }
-    ensures { IfSome result (λ number. IsNumber views.now view.now number) }
+    ensures { IfSome result (λ number. IsNumberOfView views.now view.now number) }
 {
     let number = *known.get(&view_code(&view.shared, &view.side))?;
     match views.get(number) {
@@ -160,9 +160,9 @@ fn are_within(firsts: &[usize], spans: &[Span]) -> bool
     true
 }
 
-impl Numbers {
+impl ViewNumbers {
     /// Those of a list, if pairs that begin alike stand together, and each view begins a pair.
-    pub(crate) fn of(alloc: Global, list: &[RankedPair]) -> Result<Option<Numbers>, NoMemory>
+    pub(crate) fn of(alloc: Global, list: &[RankedPair]) -> Result<Option<ViewNumbers>, NoMemory>
         ensures { IfOk result (λ found. IfSome found (λ n. AreNumbered list.now n.views.items n.firsts.items n.seconds.items n.spans.items)) }
     {
         let Views { all, known, spans } = views_of(alloc, list)?;
@@ -178,7 +178,7 @@ impl Numbers {
         if !are_within(&firsts, &spans) {
             return Ok(None);
         }
-        Ok(Some(Numbers {
+        Ok(Some(ViewNumbers {
             views: all,
             firsts,
             seconds,

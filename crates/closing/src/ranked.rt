@@ -4,7 +4,7 @@ ghost use Rattle.std.specs.Prelude.{◌≡◌, ◌==◌};
 ghost use Rattle.pairs.specs.Pairs.{data_to};
 ghost use Rattle.closing.specs.Ranked as ranked;
 
-use pairs::{Pair, Rule, Side};
+use pairs::{Pair, PairSide, Rule};
 
 /// In what order the home last served a request of each of two caches, as far as it is known.
 #[derive(Clone, Copy, PartialEq, Eq, Debug)]
@@ -24,21 +24,21 @@ pub struct RankedPair {
 }
 
 /// Whether no Data are on their way to a cache.
-fn lacks_data(side: &Side) -> bool
+fn lacks_data(side: &PairSide) -> bool
     ensures { result ≡ (data_to side.now == 0) }
 {
     side.dir_data == 0 && side.owner_data == 0 && side.excl_data == 0
 }
 
 /// Whether Data, forwards or acks are on their way to a cache.
-pub(crate) fn is_busy(side: &Side) -> bool
+pub(crate) fn is_busy(side: &PairSide) -> bool
     ensures { result ≡ ranked.is_busy side.now }
 {
     !lacks_data(side) || side.link.len() != 0 || side.owed
 }
 
 /// Whether Data, forwards or acks concern a cache.
-pub(crate) fn is_open(side: &Side) -> bool
+pub(crate) fn is_open(side: &PairSide) -> bool
     ensures { result ≡ ranked.is_open side.now }
 {
     is_busy(side) || side.fwd_gets != 0 || side.fwd_getm != 0

@@ -1,9 +1,10 @@
 use crate::files::{Files, LoadFault};
 use crate::tasks::{bounds, number, protocol, shape};
 use clap::ArgMatches;
-use console::{Fault, MOST_BYTES};
-use explaining::{Explanation, Quoted, explain_ask, explain_recording, line_of};
-use explaining_json::{explain_scenario, explain_tables};
+use command_output::{Fault, MOST_BYTES};
+use explaining::{
+    Explanation, Quoted, explain_ask, explain_recording, explain_scenario, explain_tables, line_of,
+};
 use std::alloc::Global;
 use std::io;
 

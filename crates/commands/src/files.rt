@@ -1,4 +1,4 @@
-use console::Fault;
+use command_output::Fault;
 use std::io;
 use thiserror::Error;
 

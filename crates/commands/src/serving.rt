@@ -1,29 +1,28 @@
+use crate::again::TrialWords;
 use crate::explained::{Streams, explanation};
 use crate::files::Files;
 use crate::kept::{Kept, Noted};
+use crate::limits::Limits;
 use crate::tasks::Task;
-use checking::{check, print_certificate, print_tables};
 use clap::error::ErrorKind;
 use clap::{ArgMatches, Error};
-use console::{Fault, Finding};
-use modelling::print_model;
-use playing::{move_recording, play, play_recording, print_recording, replay};
-use racing::race;
+use command_output::{Fault, Finding};
+use command_runs::{move_recording, play, play_recording, print_recording, replay};
+use command_tables::{check, print_certificate, print_model, print_tables};
+use command_trials::{MOST_STEPS, MOST_TRIALS, MOST_WORKERS, batch, one_trial, race};
 use std::alloc::Global;
 use std::io;
 use std::io::{Read, Write};
 use std::sync::Wait;
 use std::thread::Threads;
-use trying::{MOST_STEPS, MOST_TRIALS, MOST_WORKERS, batch, one_trial};
-use usage::{Limits, TrialWords};
 
 /// What numbers `msi` takes.
 const LIMITS: Limits = Limits {
     steps: MOST_STEPS,
     trials: MOST_TRIALS,
     workers: MOST_WORKERS,
-    seats: racing::MOST_SEATS,
-    model_caches: modelling::MOST_CACHES,
+    seats: command_trials::MOST_SEATS,
+    model_caches: command_tables::MOST_CACHES,
 };
 
 /// Serves the words of a command line over these files and streams, and answers the exit status. It may wait where threads
@@ -45,7 +44,7 @@ pub fn serve<R: Threads + Wait + Sync, F: Files, I: Read + Drop, O: Write + Drop
         Ok(words) => words.as_slice(),
         Err(error) => return refuse(&Fault::of_words(error), &mut errors),
     };
-    let read = match usage::msi(alloc, &LIMITS) {
+    let read = match crate::usage::msi(alloc, &LIMITS) {
         Ok(msi) => msi.try_get_matches_from(words),
         Err(_) => return refuse(&Fault::NoMemory, &mut errors),
     };

@@ -1,16 +1,15 @@
 use crate::files::Files;
 use base::controller::Protocol;
 use base::{BlockId, Shape};
-use both_tables::Tables;
-use checking::{Bounds, CertificateForm};
 use clap::ArgMatches;
-use console::{Fault, Format};
-use playing::{Form, Layout};
-use racing::RacePlan;
+use command_output::{Fault, Format};
+use command_runs::{ShownForm, TableLayout};
+use command_tables::{Bounds, CertificateForm};
+use command_trials::{BatchPlan, RacePlan, Setup, SetupFault, Until};
 use record::MOST_ENTRIES;
+use retelling::Excerpt;
 use std::alloc::Global;
-use story::Part;
-use trying::{BatchPlan, Setup, SetupFault, Until};
+use tables::Tables;
 
 /// What a command line asks for, with all that its options and their files say.
 #[derive(Drop)]
@@ -31,7 +30,7 @@ pub enum Task {
     /// Print a recording in version 2.
     Move,
     /// Show a part of a recording in this form.
-    Show(Form, Part),
+    Show(ShownForm, Excerpt),
     /// Print the cells of these tables.
     Tables(Tables),
     /// Print in this form whether these tables are proved safe.
@@ -61,8 +60,8 @@ impl Task {
             "floor" => Some(racing(alloc, options, files)?),
             "replay" => Some(Task::Replay(format(options))),
             "move" => Some(Task::Move),
-            "show" => Some(Task::Show(Form::Table(layout(options)), part(options))),
-            "chart" => Some(Task::Show(Form::Chart, part(options))),
+            "show" => Some(Task::Show(ShownForm::Table(layout(options)), part(options))),
+            "chart" => Some(Task::Show(ShownForm::Chart, part(options))),
             "tables" => Some(Task::Tables(tables(alloc, options, files)?)),
             "certify" => Some(Task::Certify(tables(alloc, options, files)?, certifying(options))),
             "model" => Some(modelling(alloc, options, files)?),
@@ -99,14 +98,14 @@ fn format(options: &ArgMatches<'_>) -> Format {
     Format::Plain
 }
 
-fn layout(options: &ArgMatches<'_>) -> Layout {
+fn layout(options: &ArgMatches<'_>) -> TableLayout {
     if options.get_flag("json") {
-        return Layout::Objects;
+        return TableLayout::Objects;
     }
     if options.get_flag("tsv") {
-        return Layout::Tabs;
+        return TableLayout::Tabs;
     }
-    Layout::Columns
+    TableLayout::Columns
 }
 
 /// The shape that the options name.
@@ -123,8 +122,8 @@ pub(crate) fn bounds(options: &ArgMatches<'_>) -> Bounds {
 }
 
 /// The part of a recording that the options choose: all of it, where they are left out.
-fn part(options: &ArgMatches<'_>) -> Part {
-    Part {
+fn part(options: &ArgMatches<'_>) -> Excerpt {
+    Excerpt {
         block: options.get_one::<u32>("block").map(BlockId),
         from: u64::from(number(options, "from")),
         steps: u64::from(options.get_one::<u32>("steps").unwrap_or(u32::MAX)),

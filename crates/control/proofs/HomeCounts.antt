@@ -13,13 +13,13 @@ use Rattle.network.specs.Room.{Room, HasRoomFor, one_if, requests_in, responses_
 use Rattle.network.proofs.Sending.{requests_in-append, responses_in-append, forwards_in-append}
 use Rattle.directory_table.specs.declared.actions.DirectoryAction.{DirectoryAction}
 use Rattle.directory_table.specs.declared.actions.DirectoryAction.TheVariants as action
-use Rattle.block_home.specs.declared.home.Home.{Home}
-use Rattle.control.specs.Events.{owns}
+use Rattle.control.specs.declared.home.Home.{Home}
+use Rattle.control.specs.HomeEvents.{owns}
 use Rattle.control.specs.Sharing.{shares}
-use Rattle.control.specs.HomeEffect.{home_message, home_messages, home_changed, with_owner, owner_message, link_message, invalidation, IsBelow}
-use Rattle.control.specs.HomeEffect.{invalidations, NamesBelow}
-use Rattle.control.specs.inner.Counting.{replies_of, replies_by, is_sent_to, owner_left, sharer_left, forwards_by, forwards_to}
-use Rattle.control.specs.inner.Counting.{is_invalidation, invalidates, HasRoomOnLink, HasRoomToOwner, HasRoomToReply, HasRoomToSharers}
+use Rattle.control.specs.HomeEffect.{home_message, home_messages, home_changed, with_owner, owner_message, link_message, invalidation, invalidations}
+use Rattle.control.specs.Homes.{IsBelow, NamesBelow}
+use Rattle.control.specs.inner.HomeCounting.{replies_of, replies_by, is_sent_to, owner_left, sharer_left, forwards_by, forwards_to}
+use Rattle.control.specs.inner.HomeCounting.{is_invalidation, invalidates, HasRoomOnLink, HasRoomToOwner, HasRoomToReply, HasRoomToSharers}
 use Rattle.control.proofs.HomeSends.{keeps-changed, no-flag}
 
 abbrev pub cache : ℕ → CacheId

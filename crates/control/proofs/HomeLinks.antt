@@ -8,10 +8,11 @@ use Rattle.network.specs.declared.message.Message.{Message}
 use Rattle.network.specs.declared.message.Message.TheVariants as message
 use Rattle.network.specs.Room.{one_if, times, AllBelow, forwards_in, forward_count}
 use Rattle.directory_table.specs.declared.actions.DirectoryAction.{DirectoryAction}
-use Rattle.block_home.specs.declared.home.Home.{Home}
-use Rattle.control.specs.Events.{owns}
-use Rattle.control.specs.HomeEffect.{home_messages, NamesBelow}
-use Rattle.control.specs.inner.Counting.{forwards_to, links_to, links_to_any, links_below, links_of, unflagged, unflagged_owner, unflagged_sender}
+use Rattle.control.specs.declared.home.Home.{Home}
+use Rattle.control.specs.HomeEvents.{owns}
+use Rattle.control.specs.HomeEffect.{home_messages}
+use Rattle.control.specs.Homes.{NamesBelow}
+use Rattle.control.specs.inner.HomeCounting.{forwards_to, links_to, links_to_any, links_below, links_of, unflagged, unflagged_owner, unflagged_sender}
 use Rattle.control.proofs.HomeCounts.{cache, eqb-self, forwards-to, unnamed, no-forwards}
 
 times-append : (k : ℕ) (xs ys : List CacheId) → times k (xs ++ ys) ≡ times k xs + times k ys

@@ -8,10 +8,11 @@ use Rattle.base.specs.declared.ids.CacheId.{CacheId}
 use Rattle.directory_table.specs.declared.actions.DirectoryAction.{DirectoryAction}
 use Rattle.directory_table.specs.declared.actions.DirectoryAction.TheVariants as action
 use Rattle.directory_table.specs.declared.state.DirectoryState.{DirectoryState}
-use Rattle.block_home.specs.declared.home.Home.{Home}
-use Rattle.block_home.specs.declared.home.HomeInput.{HomeInput}
+use Rattle.control.specs.declared.home.Home.{Home}
+use Rattle.control.specs.declared.home.HomeInput.{HomeInput}
 use Rattle.control.specs.HomeEffect.{home_message, home_messages, home_changed, home_moved, with_owner, with_sharer, invalidation, invalidations}
-use Rattle.control.specs.HomeEffect.{home_after, sender_of, brought_by, IsAmong, IsBelow, NamesBelow}
+use Rattle.control.specs.HomeEffect.{home_after, sender_of, brought_by}
+use Rattle.control.specs.Homes.{IsAmong, IsBelow, NamesBelow}
 
 -- what the actions from a place on make of a home begins with the action there
 pub moved-front : (from : Option CacheId) (value : Option ℕ) (actions : List DirectoryAction) (i : ℕ) (d : DirectoryAction) (home : Home) → i < length actions

@@ -2,3 +2,6 @@ pub mod HomeSends
 pub mod HomeCounts
 pub mod HomeLinks
 pub mod Reaching
+pub mod LineSends
+pub mod Fronts
+mod Shared

@@ -4,10 +4,10 @@ use Rattle.std.proofs.Common.{◌≡◌, ◌≢◌, ℕ, List, [], ◌∷◌, Op
 use Rattle.base.specs.declared.ids.CacheId.{CacheId}
 use Rattle.network.specs.Room.{Room, one_if}
 use Rattle.directory_table.specs.declared.actions.DirectoryAction.{DirectoryAction}
-use Rattle.block_home.specs.declared.home.Home.{Home}
+use Rattle.control.specs.declared.home.Home.{Home}
 use Rattle.control.specs.Sharing.{shares}
-use Rattle.control.specs.inner.Counting.{is_sent_to, owner_left, sharer_left, forwards_by, HasRoomOnLink, HasRoomToOwner}
-use Rattle.control.specs.inner.Counting.{may_reach_owner, may_reach_sender, reaches_owner, reaches_sender}
+use Rattle.control.specs.inner.HomeCounting.{is_sent_to, owner_left, sharer_left, forwards_by, HasRoomOnLink, HasRoomToOwner}
+use Rattle.control.specs.inner.HomeCounting.{may_reach_owner, may_reach_sender, reaches_owner, reaches_sender}
 use Rattle.control.proofs.HomeCounts.{cache}
 
 neither : (a b : Bool) → (a || b) ≡ false → (a ≡ false) × (b ≡ false)

@@ -12,11 +12,10 @@ use Rattle.network.specs.declared.message.Message.TheVariants as message
 use Rattle.directory_table.specs.declared.actions.DirectoryAction.{DirectoryAction}
 use Rattle.directory_table.specs.declared.actions.DirectoryAction.TheVariants as action
 use Rattle.directory_table.specs.declared.state.DirectoryState.{DirectoryState}
-use Rattle.block_home.specs.declared.home.Home.{Home}
-use Rattle.block_home.specs.declared.home.HomeInput.{HomeInput}
-use Rattle.block_home.specs.declared.home.HomeInput.TheVariants as home_input
-use Rattle.block_home.specs.Sharing.{others_from}
-pub use Rattle.block_home.specs.Homes.{opened_home, IsBelow, NamesBelow, IsAmong}
+use Rattle.control.specs.declared.home.Home.{Home}
+use Rattle.control.specs.declared.home.HomeInput.{HomeInput}
+use Rattle.control.specs.declared.home.HomeInput.TheVariants as home_input
+use Rattle.control.specs.Sharing.{others_from}
 
 -- the requestor, which only a request has: its sender
 abbrev pub sender_of : HomeInput → Option CacheId

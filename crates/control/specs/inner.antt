@@ -1,2 +1,3 @@
 -- what only the contracts of private functions cite
-pub mod Counting
+pub mod HomeCounting
+pub mod LineCounting

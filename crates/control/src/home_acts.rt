@@ -3,12 +3,14 @@ ghost use Rattle.network.specs.Traffic.{all_sent};
 ghost use Rattle.network.specs.Marks.{all_marks_added};
 ghost use Rattle.network.specs.Room.{HasRoomFor, UsesRoomFor};
 ghost use Rattle.control.specs.HomeEffect.{sender_of, brought_by, data_message, exclusive_message, link_message, invalidation, invalidations, owner_message};
-ghost use Rattle.control.specs.HomeEffect.{home_message, home_changed, home_messages, home_moved, home_after, home_sends, IsBelow, NamesBelow};
+ghost use Rattle.control.specs.HomeEffect.{home_message, home_changed, home_messages, home_moved, home_after, home_sends};
+ghost use Rattle.control.specs.Homes.{IsBelow, NamesBelow};
 ghost use Rattle.control.specs.Sharing.{shares};
 
+use crate::home::{Home, HomeInput};
 use crate::home_room::home_reserve;
+use crate::sharers::Sharers;
 use base::{CacheId, NoMemory, Place};
-use block_home::{Home, HomeInput, Sharers};
 use directory_table::{DirectoryAction, DirectoryActions, DirectoryState};
 use network::{Forward, ForwardKind, Message, RequestKind, Response, Wires};
 

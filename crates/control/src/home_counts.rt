@@ -1,9 +1,9 @@
 ghost use Rattle.std.specs.Prelude.{◌≡◌, ◌≤◌, length};
-ghost use Rattle.control.specs.Events.{owns};
-ghost use Rattle.control.specs.inner.Counting.{invalidates, reaches_owner, reaches_sender, replies_by, is_sent_to, owner_left, sharer_left, forwards_to};
+ghost use Rattle.control.specs.HomeEvents.{owns};
+ghost use Rattle.control.specs.inner.HomeCounting.{invalidates, reaches_owner, reaches_sender, replies_by, is_sent_to, owner_left, sharer_left, forwards_to};
 
+use crate::home::Home;
 use base::CacheId;
-use block_home::Home;
 use directory_table::DirectoryAction;
 
 /// How many responses the actions send on a request.

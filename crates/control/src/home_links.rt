@@ -1,13 +1,14 @@
 ghost use Rattle.std.specs.Prelude.{◌≡◌, ◌≤◌, ◌+◌, ◌++◌, ℕ, [], IsOk, IfOk, OnOk, OnErr, length, replicate, vec_len};
 ghost use Rattle.std.specs.Vec.{vec_capacity};
 ghost use Rattle.network.specs.Room.{AllBelow, forward_count, forwards_in, requests_in, responses_in, times};
-ghost use Rattle.control.specs.HomeEffect.{sender_of, home_sends, IsBelow, NamesBelow};
-ghost use Rattle.control.specs.inner.Counting.{unflagged, unflagged_owner, unflagged_sender, links_to_any, links_of};
+ghost use Rattle.control.specs.HomeEffect.{sender_of, home_sends};
+ghost use Rattle.control.specs.Homes.{IsBelow, NamesBelow};
+ghost use Rattle.control.specs.inner.HomeCounting.{unflagged, unflagged_owner, unflagged_sender, links_to_any, links_of};
 
+use crate::home::{Home, HomeInput};
 use crate::home_counts::{forwards_to, is_owner, replies};
+use crate::needs::Needs;
 use base::{CacheId, NoMemory};
-use block_home::{Home, HomeInput};
-use cache_line::Needs;
 use directory_table::{DirectoryAction, DirectoryActions};
 
 /// Lists the link of each message that an act of this input at a home sends, in place of what the lent list held, and

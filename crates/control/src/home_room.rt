@@ -1,12 +1,13 @@
 ghost use Rattle.std.specs.Prelude.{◌≡◌, ◌<◌, ◌≤◌, ℕ, [], IsOk, OnOk, length, true};
 ghost use Rattle.network.specs.Room.{HasRoomFor, UsesRoomFor};
-ghost use Rattle.control.specs.HomeEffect.{sender_of, home_sends, IsBelow, NamesBelow};
-ghost use Rattle.control.specs.inner.Counting.{HasRoomOnLink, HasRoomToReply, HasRoomToOwner, HasRoomToSharers, invalidates, reaches_owner, reaches_sender};
+ghost use Rattle.control.specs.HomeEffect.{sender_of, home_sends};
+ghost use Rattle.control.specs.Homes.{IsBelow, NamesBelow};
+ghost use Rattle.control.specs.inner.HomeCounting.{HasRoomOnLink, HasRoomToReply, HasRoomToOwner, HasRoomToSharers, invalidates, reaches_owner, reaches_sender};
 ghost use Rattle.control.specs.Sharing.{shares};
 
+use crate::home::{Home, HomeInput};
 use crate::home_counts::{forwards_to, reach_of};
 use base::{CacheId, NoMemory};
-use block_home::{Home, HomeInput};
 use directory_table::{DirectoryAction, DirectoryActions};
 use network::Wires;
 

@@ -1,4 +1,4 @@
-//! One outstanding operation a core.
+//! Cores: what each has outstanding, one load or store at most.
 #![tactic(auto)]
 
 mod cores;

@@ -7,8 +7,8 @@ use Rattle.cursors.specs.declared.part.Part.{Part, Fresh, Begun', Row_of-Part, e
 use Rattle.cursors.specs.declared.part.Part.{items-the_row-Part, items_hidden-the_row-Part-0}
 use Rattle.cursors.specs.declared.part.Part.TheBlock.{hidden-the_row-Part-0}
 use Rattle.cursors.specs.declared.part.Part.TheVariants.{Begun}
-use Rattle.cursors.specs.declared.part.Place.{Place}
-use Rattle.cursors.specs.declared.part.Place.TheVariants as place
+use Rattle.cursors.specs.declared.part.PartPlace.{PartPlace}
+use Rattle.cursors.specs.declared.part.PartPlace.TheVariants as place
 use Rattle.base.specs.declared.step.CoreAsk.{CoreAsk}
 use Rattle.scenario.specs.Tree.{trees_of}
 use Rattle.scenario.specs.Taking.{ends, all_end, offers, offers_of_all}
@@ -27,10 +27,10 @@ row_items A B (more_of-Part p row) = ap (λ ps. progress p ∷ ps) (row_items A 
 pub parts-row : {A B : Type 0} (v : Vec (Part A B) B) → progress_row (hidden-the_row-Part-0 A B v) ≡ map progress v.items
 parts-row {A} {B} v = row_items A B (hidden-the_row-Part-0 A B v) ∙ ap (map progress) (items_hidden-the_row-Part-0 A B v)
 
-pub parts-Begun : {A B : Type 0} (at : Place A) (v : Vec (Part A B) B) → parts_of (Begun at v) ≡ map progress v.items
+pub parts-Begun : {A B : Type 0} (at : PartPlace A) (v : Vec (Part A B) B) → parts_of (Begun at v) ≡ map progress v.items
 parts-Begun at v = parts-row v
 
-pub place-Begun : {A B : Type 0} (at : Place A) (v : Vec (Part A B) B) → place_of (Begun at v) ≡ at
+pub place-Begun : {A B : Type 0} (at : PartPlace A) (v : Vec (Part A B) B) → place_of (Begun at v) ≡ at
 place-Begun at v = refl
 
 pub progress-is : {A B : Type 0} (p : Part A B) → progress p ≡ progress_at (place_of p) (parts_of p)
@@ -48,7 +48,7 @@ highest-first (suc n) [] = omega arith
 highest-first (suc n) (p ∷ ps) = let h = highest-first n ps in omega (arith, h)
 
 -- the parts in use go less far down
-pub parts-lower : {A : Type 0} (at : Place A) (ps : List Progress) → highest (take (count_at at) ps) < height (progress_at at ps)
+pub parts-lower : {A : Type 0} (at : PartPlace A) (ps : List Progress) → highest (take (count_at at) ps) < height (progress_at at ps)
 parts-lower place.Nothing [] = omega arith
 parts-lower place.Nothing (p ∷ ps) = omega arith
 parts-lower (place.Whole t) [] = omega arith
@@ -97,7 +97,7 @@ one-offers : (b : Bool) (xs ys : List CoreAsk) → xs ++ cond b ys [] ≡ (xs ++
 one-offers b xs ys = rw (and_true b, append-neither true xs) refl
 
 -- it may end where its parts may, and what is behind them
-pub ends-parts : {A : Type 0} (at : Place A) (ps : List Progress)
+pub ends-parts : {A : Type 0} (at : PartPlace A) (ps : List Progress)
     → ends (tree_left (progress_at at ps)) ≡ (all_end (all_left (take (count_at at) ps)) && ends (behind at))
 ends-parts place.Nothing [] = refl
 ends-parts place.Nothing (p ∷ ps) = refl
@@ -110,7 +110,7 @@ ends-parts (place.InTimes n t) (p ∷ ps) = two-end (ends (tree_left p)) _
 ends-parts (place.InBoth n) ps = ends-first n ps ∙ sym (and_true _)
 
 -- its parts' offers come first, and where these may end those behind them
-pub offers-parts : {A : Type 0} (at : Place A) (ps : List Progress) → offers (tree_left (progress_at at ps))
+pub offers-parts : {A : Type 0} (at : PartPlace A) (ps : List Progress) → offers (tree_left (progress_at at ps))
     ≡ offers_of_all (all_left (take (count_at at) ps)) ++ cond (all_end (all_left (take (count_at at) ps))) (offers (behind at)) []
 offers-parts place.Nothing [] = refl
 offers-parts place.Nothing (p ∷ ps) = refl

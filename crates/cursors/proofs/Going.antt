@@ -4,8 +4,8 @@ use Rattle.std.proofs.Common.{Some, Bool, true, false, cond, length, take, map, 
 use Rattle.std.proofs.lemmas.Bool.Decides.{nat_tests}
 use Rattle.base.specs.declared.step.CoreAsk.{CoreAsk}
 use Rattle.cursors.specs.declared.part.Part.{Part, Fresh}
-use Rattle.cursors.specs.declared.part.Place.{Place}
-use Rattle.cursors.specs.declared.part.Place.TheVariants as place
+use Rattle.cursors.specs.declared.part.PartPlace.{PartPlace}
+use Rattle.cursors.specs.declared.part.PartPlace.TheVariants as place
 use Rattle.scenario.specs.Tree as tree
 use Rattle.scenario.specs.Tree.{Tree, Trees, plain, plain_all, trees_of}
 use Rattle.scenario.specs.Taking.{offers, offers_of_all, all_end}
@@ -32,7 +32,7 @@ later t ts i k e =
     ∙ ap (rest_in_turn ts) (omega (arith, e))
 
 -- what is left, where it is behind the parts in use
-pub moves-behind : {A : Type 0} (at : Place A) (ps : List Progress) (i k : ℕ) (new : Progress) → k < length (offers (behind at))
+pub moves-behind : {A : Type 0} (at : PartPlace A) (ps : List Progress) (i k : ℕ) (new : Progress) → k < length (offers (behind at))
     → i ≡ length (offers_of_all (all_left (take (count_at at) ps))) + k → MovesTo (behind at) k (wants_behind at) new
     → MovesTo (tree_left (progress_at at ps)) i (wants (progress_at at ps)) new
 moves-behind place.Nothing ps i k new h e l = absurd (omega (arith, h))
@@ -91,7 +91,7 @@ both-most (suc n) (r ∷ ps) zero p q e h =
     (subst (λ x. Within (wants q) (wants x)) (sym e') h, within-same (wants_of_all (first_parts n ps)))
 both-most (suc n) (r ∷ ps) (suc j) p q e h = (within-same (wants r), both-most n ps j p q e h)
 
-pub moves-part : {A : Type 0} (at : Place A) (ps : List Progress) (i j k : ℕ) (p q : Progress) → slice_get ps j ≡ Some p → j < count_at at
+pub moves-part : {A : Type 0} (at : PartPlace A) (ps : List Progress) (i j k : ℕ) (p q : Progress) → slice_get ps j ≡ Some p → j < count_at at
     → k < length (offers (tree_left p)) → i ≡ length (offers_of_all (all_left (take j ps))) + k → MovesTo (tree_left p) k (wants p) q
     → MovesTo (tree_left (progress_at at ps)) i (wants (progress_at at ps)) (progress_at at (slice_set ps j q))
 moves-part place.Nothing ps i j k p q e within h is l = absurd (omega (arith, within))
@@ -136,7 +136,7 @@ offered-behind p ps e i k h is =
     (subst (λ os. i < length os) (cursor-offers p ps e) h) is
 
 -- at these places nothing is behind them
-pub none-behind : {A : Type 0} (at is : Place A) (k : ℕ) → is ≡ at → (is ≡ place.Nothing) ⊎ ((n : ℕ) × (is ≡ place.InBoth n))
+pub none-behind : {A : Type 0} (at is : PartPlace A) (k : ℕ) → is ≡ at → (is ≡ place.Nothing) ⊎ ((n : ℕ) × (is ≡ place.InBoth n))
     → k < length (offers (behind at)) → ⊥
 none-behind at is k e (inl f) h = let low : k < 0 = subst (λ q. k < length (offers (behind q))) (sym e ∙ f) h in omega (arith, low)
 none-behind at is k e (inr f) h = let low : k < 0 = subst (λ q. k < length (offers (behind q))) (sym e ∙ f.1) h in omega (arith, low)
@@ -204,7 +204,7 @@ found-in-use xs ps n i j k e h =
     )
 
 -- a part without parts has none in use
-pub none-in-use : {A B : Type 0} (p : Part A B) (at : Place A) (j : ℕ) (q : Progress) → p ≡ Fresh at → slice_get (parts_of p) j ≡ Some q → ⊥
+pub none-in-use : {A B : Type 0} (p : Part A B) (at : PartPlace A) (j : ℕ) (q : Progress) → p ≡ Fresh at → slice_get (parts_of p) j ≡ Some q → ⊥
 none-in-use p at j q e h = let none : slice_get [] j ≡ Some q = sym (ap (λ r. slice_get (parts_of r) j) e) ∙ h in absurd (cc none)
 
 pub some-same : (p q : Progress) (ps : List Progress) (j : ℕ) → slice_get ps j ≡ Some p → slice_get ps j ≡ Some q → p ≡ q

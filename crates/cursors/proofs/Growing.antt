@@ -3,8 +3,8 @@ use Rattle.std.proofs.Common.{◌≡◌, ℕ, zero, suc, List, [], ◌∷◌, �
 use Rattle.cursors.specs.Cursors.{Progress, Nothing, InSeq, InTimes, InBoth, Cons, first_part, first_parts, progress, progress_at}
 use Rattle.scenario.specs.Tree.{plain, plain_all}
 use Rattle.cursors.specs.declared.part.Part.{Part}
-use Rattle.cursors.specs.declared.part.Place.{Place}
-use Rattle.cursors.specs.declared.part.Place.TheVariants as place
+use Rattle.cursors.specs.declared.part.PartPlace.{PartPlace}
+use Rattle.cursors.specs.declared.part.PartPlace.TheVariants as place
 use Rattle.cursors.specs.inner.Parts.{Grows, parts_of, place_of}
 use Rattle.cursors.proofs.Cursors.{progress-is}
 
@@ -34,7 +34,7 @@ firsts-same (suc n) [] (q ∷ qs) h = rw h.0 (ap (Cons Nothing) (firsts-same n [
 firsts-same (suc n) (p ∷ ps) [] h = absurd h
 firsts-same (suc n) (p ∷ ps) (q ∷ qs) h = rw h.0 (ap (Cons p) (firsts-same n ps qs h.1))
 
-pub progress-same : {A : Type 0} (at : Place A) (ps qs : List Progress) → Grows ps qs → progress_at at qs ≡ progress_at at ps
+pub progress-same : {A : Type 0} (at : PartPlace A) (ps qs : List Progress) → Grows ps qs → progress_at at qs ≡ progress_at at ps
 progress-same place.Nothing ps qs h = refl
 progress-same (place.Whole t) ps qs h = refl
 progress-same (place.InSeq ts) ps qs h = ap (λ p. InSeq p (plain_all ts.now)) (first-same ps qs h)

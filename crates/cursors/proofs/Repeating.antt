@@ -3,7 +3,7 @@ use Rattle.std.proofs.Common.{◌≡◌, ◌-◌, ◌<◌, ℕ, true, true≢fal
 use Rattle.std.proofs.Common.{le-ltb, lt-ltb, Bor}
 use Rattle.std.proofs.lemmas.Bool.{cases_lt, ne_eqb}
 use Rattle.cursors.specs.declared.part.Part.{Part}
-use Rattle.cursors.specs.declared.part.Place.TheVariants as place
+use Rattle.cursors.specs.declared.part.PartPlace.TheVariants as place
 use Rattle.scenario.specs.declared.tree.Scenario.{Scenario}
 use Rattle.scenario.specs.Tree.{Tree, Trees, One, Seq, Any, Times, Both, Nil, Cons, plain}
 use Rattle.cursors.specs.Cursors.{Nothing, InTimes, first_part, progress_at, tree_left}

@@ -7,8 +7,8 @@ use Rattle.cursors.specs.declared.part.Part.{Part, Row_of-Part, end_of-Part, mor
 use Rattle.cursors.specs.declared.part.Part.{items-the_row-Part, items_hidden-the_row-Part-0}
 use Rattle.cursors.specs.declared.part.Part.TheBlock.{hidden-the_row-Part-0}
 use Rattle.cursors.specs.declared.part.Part.TheVariants.{Begun}
-use Rattle.cursors.specs.declared.part.Place.{Place}
-use Rattle.cursors.specs.declared.part.Place.TheVariants as place
+use Rattle.cursors.specs.declared.part.PartPlace.{PartPlace}
+use Rattle.cursors.specs.declared.part.PartPlace.TheVariants as place
 use Rattle.scenario.specs.declared.tree.Scenario.{Scenario}
 use Rattle.scenario.specs.Tree as tree
 use Rattle.scenario.specs.Tree.{Tree, Trees, plain, plain_all}
@@ -132,7 +132,7 @@ pub stock-row : {A B : Type 0} (v : Vec (Part A B) B) → stock_row (hidden-the_
 stock-row {A} {B} v =
     row_stocks A B (hidden-the_row-Part-0 A B v) ∙ ap (λ xs. holding (map stock xs)) (items_hidden-the_row-Part-0 A B v)
 
-pub stock-Begun : {A B : Type 0} (at : Place A) (v : Vec (Part A B) B) → stock (Begun at v) ≡ holding (map stock v.items)
+pub stock-Begun : {A B : Type 0} (at : PartPlace A) (v : Vec (Part A B) B) → stock (Begun at v) ≡ holding (map stock v.items)
 stock-Begun at v = stock-row v
 
 -- where one part is changed
@@ -217,7 +217,7 @@ wants-both (suc n) [] j h = tt
 wants-both (suc n) (p ∷ ps) zero h = (within-same (wants p), tt)
 wants-both (suc n) (p ∷ ps) (suc j) h = (tt, wants-both n ps j (omega (arith, h)))
 
-pub wants-part : {A : Type 0} (at : Place A) (ps : List Progress) (j : ℕ) → j < count_at at → Within (wants_at ps j) (wants (progress_at at ps))
+pub wants-part : {A : Type 0} (at : PartPlace A) (ps : List Progress) (j : ℕ) → j < count_at at → Within (wants_at ps j) (wants (progress_at at ps))
 wants-part place.Nothing ps j h = absurd (omega (arith, h))
 wants-part (place.Whole t) ps j h = absurd (omega (arith, h))
 wants-part at [] j h = tt
@@ -227,7 +227,7 @@ wants-part (place.InTimes n t) (p ∷ ps) zero h = (in-first (wants p) (room (pl
 wants-part (place.InTimes n t) (p ∷ ps) (suc j) h = absurd (omega (arith, h))
 wants-part (place.InBoth n) ps j h = wants-both n ps j h
 
-pub behind-wanted : {A : Type 0} (at : Place A) (ps : List Progress) → Within (wants_behind at) (wants (progress_at at ps))
+pub behind-wanted : {A : Type 0} (at : PartPlace A) (ps : List Progress) → Within (wants_behind at) (wants (progress_at at ps))
 behind-wanted place.Nothing ps = tt
 behind-wanted (place.Whole t) ps = within-same (room (plain t.now))
 behind-wanted (place.InSeq ts) ps = in-second (With (wants (first_part ps)) Empty) (room_in_turn (plain_all ts.now))

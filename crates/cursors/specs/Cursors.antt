@@ -4,8 +4,8 @@ use Rattle.scenario.specs.Tree.{Tree, Trees, plain, plain_all}
 use Rattle.scenario.specs.Tree as tree
 use Rattle.cursors.specs.declared.cursor.Cursor.{Cursor}
 use Rattle.cursors.specs.declared.part.Part.{Part, Fresh, Begun', Row_of-Part, end_of-Part, more_of-Part}
-use Rattle.cursors.specs.declared.part.Place.{Place}
-use Rattle.cursors.specs.declared.part.Place.TheVariants as place
+use Rattle.cursors.specs.declared.part.PartPlace.{PartPlace}
+use Rattle.cursors.specs.declared.part.PartPlace.TheVariants as place
 
 mutual
   -- nothing is left; a whole tree; what is left of a child, before the others of its row;
@@ -33,7 +33,7 @@ first_parts (suc n) [] = Cons Nothing (first_parts n [])
 first_parts (suc n) (p ∷ ps) = Cons p (first_parts n ps)
 
 -- how far a cursor of these parts is, at this place. Parts that the place doesn't use are kept for later, and mean nothing
-abbrev pub progress_at : {A : Type 0} → Place A → List Progress → Progress
+abbrev pub progress_at : {A : Type 0} → PartPlace A → List Progress → Progress
 progress_at place.Nothing ps = Nothing
 progress_at (place.Whole t) ps = Whole (plain t.now)
 progress_at (place.InSeq ts) ps = InSeq (first_part ps) (plain_all ts.now)

@@ -4,7 +4,7 @@ ghost use Rattle.std.specs.Prelude.{◌≡◌, true};
 ghost use Rattle.cursors.specs.inner.Turns.{chooses};
 
 use crate::part::{
-    Part, Place, chooses, part_next, part_repeats, pass_at_once, pass_turn, take_from,
+    Part, PartPlace, chooses, part_next, part_repeats, pass_at_once, pass_turn, take_from,
 };
 use crate::telling::Next;
 use base::NoMemory;
@@ -34,7 +34,7 @@ impl<'t, A: Allocator, B: Allocator> Cursor<'t, A, B> {
         ensures fits { FitsIn result (plain tree.entry.now) }
     {
         Cursor {
-            root: Part::Fresh(Place::Whole(tree)),
+            root: Part::Fresh(PartPlace::Whole(tree)),
             in_turns: false,
         }
     }
@@ -66,7 +66,7 @@ impl<'t, A: Allocator, B: Allocator> Cursor<'t, A, B> {
         ensures used { most_used (standing self.new) ≤ nodes (plain tree.entry.now) }
     {
         self.in_turns = false;
-        self.root.move_to(Place::Whole(tree));
+        self.root.move_to(PartPlace::Whole(tree));
     }
 }
 

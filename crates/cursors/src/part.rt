@@ -20,13 +20,13 @@ pub(crate) use telling::part_next;
 #[derive(Drop)]
 pub(crate) enum Part<'t, A: Allocator, B: Allocator> {
     /// It never had parts of its own.
-    Fresh(Place<'t, A>),
+    Fresh(PartPlace<'t, A>),
     /// Those in use stand first. Parts behind them are kept for later, and mean nothing.
-    Begun(Place<'t, A>, Vec<Part<'t, A, B>, B>),
+    Begun(PartPlace<'t, A>, Vec<Part<'t, A, B>, B>),
 }
 
 /// Where a part is in its tree.
-pub(crate) enum Place<'t, A: Allocator> {
+pub(crate) enum PartPlace<'t, A: Allocator> {
     /// Nothing is left.
     Nothing,
     /// All of this tree is left.
@@ -39,19 +39,19 @@ pub(crate) enum Place<'t, A: Allocator> {
     InBoth(usize),
 }
 
-impl<'t, A: Allocator> Clone for Place<'t, A> {
+impl<'t, A: Allocator> Clone for PartPlace<'t, A> {
     ghost use Rattle.std.specs.Prelude.{◌≡◌, ⊤};
 
     ghost is_clone = { λ x y. y ≡ x };
 
     ghost is_infallible = { λ _. ⊤ };
 
-    fn clone(&self) -> Result<Place<'t, A>, AllocError> {
+    fn clone(&self) -> Result<PartPlace<'t, A>, AllocError> {
         Ok(*self)
     }
 }
 
-impl<'t, A: Allocator> Copy for Place<'t, A> {}
+impl<'t, A: Allocator> Copy for PartPlace<'t, A> {}
 
 impl<'t, A: Allocator, B: Allocator> Part<'t, A, B> {
     ghost use Rattle.std.specs.Prelude.{◌≡◌, map};
@@ -64,11 +64,11 @@ impl<'t, A: Allocator, B: Allocator> Part<'t, A, B> {
         ensures ended { progress result ≡ Nothing }
         ensures held { stock result ≡ Empty }
     {
-        Part::Fresh(Place::Nothing)
+        Part::Fresh(PartPlace::Nothing)
     }
 
     #[tactic(auto, using(crate::proofs::Cursors::parts))]
-    pub(crate) fn place(&self) -> Place<'t, A>
+    pub(crate) fn place(&self) -> PartPlace<'t, A>
         ensures { result ≡ place_of self.now }
     {
         match self {
@@ -90,7 +90,7 @@ impl<'t, A: Allocator, B: Allocator> Part<'t, A, B> {
 
     /// It is at this place from now on. Its parts stay.
     #[tactic(auto, using(crate::proofs::Cursors::parts))]
-    pub(crate) fn move_to(&mut self, to: Place<'t, A>)
+    pub(crate) fn move_to(&mut self, to: PartPlace<'t, A>)
         ensures place { progress self.new ≡ progress_at to.entry (parts_of self.old) }
         ensures parts { parts_of self.new ≡ parts_of self.old }
         ensures held { stock self.new ≡ stock self.old }

@@ -5,13 +5,13 @@ use Rattle.std.proofs.lemmas.Option.{slice_get_within}
 use Rattle.trials.specs.Terms.{Plan}
 use Rattle.trials.specs.declared.verdict.TrialResult.{TrialResult}
 use Rattle.desk.specs.Counting.{times}
-use Rattle.desk.specs.Seats.{SeatView}
+use Rattle.desk.specs.Seats.{DeskSeatView}
 use Rattle.desk.specs.Closing.{IsPlace, claims_of, any_told}
 use Rattle.desk.specs.inner.Keeping.{IsPlaceUpTo, Collects}
 use Rattle.desk.proofs.Seating.{at_cases}
 
 -- one seat more
-pub place_more : (plan : Plan) (ss : List SeatView) (m k : ℕ) (s : SeatView) (o new : Option TrialResult) → slice_get ss m ≡ Some s
+pub place_more : (plan : Plan) (ss : List DeskSeatView) (m k : ℕ) (s : DeskSeatView) (o new : Option TrialResult) → slice_get ss m ≡ Some s
     → IsPlaceUpTo plan ss m k o → Collects plan s k o new → IsPlaceUpTo plan ss (m + 1) k new
 place_more plan ss m k s o new at h c = by_case (get_or s.posted k false) refl
   where
@@ -28,11 +28,11 @@ place_more plan ss m k s o new at h c = by_case (get_or s.posted k false) refl
     by_case true did = let q = c.1 did in subst (λ y. IsPlaceUpTo plan ss (m + 1) k y) (sym q.1) (q.3, m, s, at, did, q.2)
     by_case false isnt = subst (λ y. IsPlaceUpTo plan ss (m + 1) k y) (sym (c.0 (λ did. absurd (cc (sym isnt ∙ did))))) (stays o isnt h)
 
-pub place_all : (plan : Plan) (ss : List SeatView) (m k : ℕ) (o : Option TrialResult) → length ss ≤ m → IsPlaceUpTo plan ss m k o → IsPlace plan ss k o
+pub place_all : (plan : Plan) (ss : List DeskSeatView) (m k : ℕ) (o : Option TrialResult) → length ss ≤ m → IsPlaceUpTo plan ss m k o → IsPlace plan ss k o
 place_all plan ss m k None long h = λ q. let lt = slice_get_within ss q.0 q.1 q.2 in h q.0 q.1 (omega (arith, lt, long)) q.2 q.3
 place_all plan ss m k (Some r) long h = h
 
-pub claims_of-push : (x : ℕ) (ss : List SeatView) (s : SeatView) → claims_of x (ss ++ s ∷ []) ≡ claims_of x ss + times x s.claimed
+pub claims_of-push : (x : ℕ) (ss : List DeskSeatView) (s : DeskSeatView) → claims_of x (ss ++ s ∷ []) ≡ claims_of x ss + times x s.claimed
 claims_of-push x [] s = omega arith
 claims_of-push x (t ∷ ss) s = omega (arith, claims_of-push x ss s)
 
@@ -46,7 +46,7 @@ or_swap false false c = or_false c
     or_false true = refl
     or_false false = refl
 
-any_told-push : (ss : List SeatView) (s : SeatView) → any_told (ss ++ s ∷ []) ≡ (any_told ss || s.told)
+any_told-push : (ss : List DeskSeatView) (s : DeskSeatView) → any_told (ss ++ s ∷ []) ≡ (any_told ss || s.told)
 any_told-push [] s = or_nil s.told
   where
     or_nil : (d : Bool) → (d || false) ≡ d
@@ -59,5 +59,5 @@ any_told-push (t ∷ ss) s = ap (λ b. t.told || b) (any_told-push ss s) ∙ or_
     or_assoc false b c = refl
 
 -- a seat goes from the row to the token
-pub told_moves : (over : Bool) (ss : List SeatView) (s : SeatView) → (over || any_told (ss ++ s ∷ [])) ≡ ((over || s.told) || any_told ss)
+pub told_moves : (over : Bool) (ss : List DeskSeatView) (s : DeskSeatView) → (over || any_told (ss ++ s ∷ [])) ≡ ((over || s.told) || any_told ss)
 told_moves over ss s = ap (λ b. over || b) (any_told-push ss s) ∙ or_swap over (any_told ss) s.told

@@ -6,12 +6,12 @@ use Rattle.std.proofs.lemmas.Bool.Decides.{nat_tests}
 use mathlib.Core.Option.{none, some}
 use lib.ListN.{get_elem?}
 use Rattle.atomic_table.specs.Table.{State, Me, step, keeps, Allows, Splits, Joins, stepped, opening}
-use Rattle.desk.specs.declared.word.TokenView.{TokenView}
+use Rattle.desk.specs.declared.word.WordTokenView.{WordTokenView}
 use Rattle.desk.specs.declared.word.Size.{Size}
 use Rattle.desk.specs.Counting.{times, once_below}
 use Rattle.desk.specs.inner.Drawing.{total, ended, fresh, IsDrawn, drew, merged, Draws, Totals}
 
-set_get : (views : List TokenView) (id by : ℕ) (w v : TokenView) → get_elem? (slice_set views id w) by ≡ some v
+set_get : (views : List WordTokenView) (id by : ℕ) (w v : WordTokenView) → get_elem? (slice_set views id w) by ≡ some v
     → ((by ≡ id) × (v ≡ w)) ⊎ ((by ≢ id) × (get_elem? views by ≡ some v))
 set_get [] id by w v e = absurd (cc e)
 set_get (u ∷ us) zero zero w v e = inl (refl, cc e)
@@ -22,60 +22,60 @@ set_get (u ∷ us) (suc id) (suc by) w v e = elim (set_get us id by w v e) [
   | inr a ↦ inr ((λ p. a.0 (omega (arith, p))), a.1)
 ]
 
-set_same : (views : List TokenView) (id by : ℕ) (w v : TokenView) → get_elem? views id ≡ some w → get_elem? (slice_set views id w) by ≡ some v
+set_same : (views : List WordTokenView) (id by : ℕ) (w v : WordTokenView) → get_elem? views id ≡ some w → get_elem? (slice_set views id w) by ≡ some v
     → get_elem? views by ≡ some v
 set_same views id by w v at e = elim (set_get views id by w v e) [
   | inl q ↦ rw (q.0, q.1) at
   | inr q ↦ q.1
 ]
 
-snoc_get : (views : List TokenView) (w v : TokenView) (by : ℕ) → get_elem? (views ++ w ∷ []) by ≡ some v
+snoc_get : (views : List WordTokenView) (w v : WordTokenView) (by : ℕ) → get_elem? (views ++ w ∷ []) by ≡ some v
     → (get_elem? views by ≡ some v) ⊎ (v ≡ w)
 snoc_get [] w v zero e = inr (cc e)
 snoc_get [] w v (suc by) e = absurd (cc e)
 snoc_get (u ∷ us) w v zero e = inl e
 snoc_get (u ∷ us) w v (suc by) e = snoc_get us w v by e
 
-total_set : (f : TokenView → ℕ) (views : List TokenView) (port : ℕ) (v w : TokenView) → get_elem? views port ≡ some v
+total_set : (f : WordTokenView → ℕ) (views : List WordTokenView) (port : ℕ) (v w : WordTokenView) → get_elem? views port ≡ some v
     → total f (slice_set views port w) + f v ≡ total f views + f w
 total_set f [] port v w at = absurd (cc at)
 total_set f (u ∷ us) zero v w at = let e : u ≡ v = cc at in omega (arith, ap f e)
 total_set f (u ∷ us) (suc port) v w at = omega (arith, total_set f us port v w at)
 
-total_snoc : (f : TokenView → ℕ) (views : List TokenView) (w : TokenView) → total f (views ++ w ∷ []) ≡ total f views + f w
+total_snoc : (f : WordTokenView → ℕ) (views : List WordTokenView) (w : WordTokenView) → total f (views ++ w ∷ []) ≡ total f views + f w
 total_snoc f [] w = omega arith
 total_snoc f (u ∷ us) w = omega (arith, total_snoc f us w)
 
 -- a part that isn't counted leaves room
-room : (f g : TokenView → ℕ) → ((u : TokenView) → f u ≤ g u) → (views : List TokenView) (port : ℕ) (v : TokenView)
+room : (f g : WordTokenView → ℕ) → ((u : WordTokenView) → f u ≤ g u) → (views : List WordTokenView) (port : ℕ) (v : WordTokenView)
     → get_elem? views port ≡ some v
     → total f views + g v ≤ total g views + f v
 room f g le [] port v at = absurd (cc at)
 room f g le (u ∷ us) zero v at = let e : u ≡ v = cc at in omega (arith, ap f e, ap g e, all_le us)
   where
-    all_le : (vs : List TokenView) → total f vs ≤ total g vs
+    all_le : (vs : List WordTokenView) → total f vs ≤ total g vs
     all_le [] = omega arith
     all_le (x ∷ xs) = omega (arith, le x, all_le xs)
 room f g le (u ∷ us) (suc port) v at = omega (arith, le u, room f g le us port v at)
 
 -- a view has no more than all
-one_of : (f : TokenView → ℕ) (views : List TokenView) (port : ℕ) (v : TokenView) → get_elem? views port ≡ some v → f v ≤ total f views
+one_of : (f : WordTokenView → ℕ) (views : List WordTokenView) (port : ℕ) (v : WordTokenView) → get_elem? views port ≡ some v → f v ≤ total f views
 one_of f [] port v at = absurd (cc at)
 one_of f (u ∷ us) zero v at = let e : u ≡ v = cc at in omega (arith, ap f e)
 one_of f (u ∷ us) (suc port) v at = omega (arith, one_of f us port v at)
 
 -- where one view has every part, and f is 0 of each view with none, it has all of f
-all_of : (f : TokenView → ℕ) (views : List TokenView) (port : ℕ) (v : TokenView) → get_elem? views port ≡ some v
+all_of : (f : WordTokenView → ℕ) (views : List WordTokenView) (port : ℕ) (v : WordTokenView) → get_elem? views port ≡ some v
     → total (λ u. u.parts) views ≤ v.parts
-    → ((id : ℕ) (u : TokenView) → get_elem? views id ≡ some u → u.parts ≡ 0 → f u ≡ 0) → total f views ≡ f v
+    → ((id : ℕ) (u : WordTokenView) → get_elem? views id ≡ some u → u.parts ≡ 0 → f u ≡ 0) → total f views ≡ f v
 all_of f [] port v at le idle = absurd (cc at)
 all_of f (u ∷ us) zero v at le idle =
     let e : u ≡ v = cc at in
     let p = ap (λ x. x.parts) e in
     omega (arith, ap f e, none_of us (omega (arith, le, p)) (λ id x g. idle (suc id) x g))
   where
-    none_of : (vs : List TokenView) → total (λ x. x.parts) vs ≡ 0
-        → ((id : ℕ) (x : TokenView) → get_elem? vs id ≡ some x → x.parts ≡ 0 → f x ≡ 0) → total f vs ≡ 0
+    none_of : (vs : List WordTokenView) → total (λ x. x.parts) vs ≡ 0
+        → ((id : ℕ) (x : WordTokenView) → get_elem? vs id ≡ some x → x.parts ≡ 0 → f x ≡ 0) → total f vs ≡ 0
     none_of [] z i = refl
     none_of (x ∷ xs) z i = omega (arith, i 0 x refl (omega (arith, z)), none_of xs (omega (arith, z)) (λ id y g. i (suc id) y g))
 all_of f (u ∷ us) (suc port) v at le idle =
@@ -94,7 +94,7 @@ kept_length : (ws : List ℕ) (m : ℕ) → length ws ≡ 1 → length (slice_se
 kept_length [] m e = absurd (omega (arith, e))
 kept_length (w ∷ ws) m e = e
 
-ended_le : (u : TokenView) → ended u ≤ u.parts
+ended_le : (u : WordTokenView) → ended u ≤ u.parts
 ended_le u = grind arith
 
 -- the next number, where it is one of them
@@ -118,13 +118,13 @@ one_less n count parts a b p part q = by_case (nat_lt n count) refl
 past : (n count : ℕ) → not (nat_lt n count) ≡ true → count ≤ n
 past n count e = grind (arith, nat_tests)
 
-draws_kept : (size : Size) (s : State (Unit {0}) TokenView) (id : ℕ) (v : TokenView) → v.count ≡ size.count → 0 < v.parts
+draws_kept : (size : Size) (s : State (Unit {0}) WordTokenView) (id : ℕ) (v : WordTokenView) → v.count ≡ size.count → 0 < v.parts
     → size.count + size.parts < 2 ^ 64 → v.over ≡ false
     → IsDrawn size s → get_elem? s.views id ≡ some v
     → IsDrawn size (stepped s 0 ((slice_index s.words 0 + 1) % 2 ^ 64) id [] (drew v.count v (slice_index s.words 0)) keeps)
 draws_kept size s id v count part small on h at =
     let n : ℕ = slice_index s.words 0 in
-    let w : TokenView = drew v.count v n in
+    let w : WordTokenView = drew v.count v n in
     let off : ended v ≡ 0 = ap (λ t. cond t v.parts 0) on in
     let space = room ended (λ u. u.parts) ended_le s.views id v at in
     let below : n + 1 < 2 ^ 64 = omega (arith, h.bound, h.parts, space, off, small, part) in
@@ -150,7 +150,7 @@ draws_kept size s id v count part small on h at =
     }
 
 -- what a token has drawn lies below the word
-drawn_below : (size : Size) (s : State (Unit {0}) TokenView) (id : ℕ) (v : TokenView) → IsDrawn size s → get_elem? s.views id ≡ some v → (x : ℕ)
+drawn_below : (size : Size) (s : State (Unit {0}) WordTokenView) (id : ℕ) (v : WordTokenView) → IsDrawn size s → get_elem? s.views id ≡ some v → (x : ℕ)
     → 0 < times x v.drawn → x < slice_index s.words 0
 drawn_below size s id v h at x some_there = let le = one_of (λ u. times x u.drawn) s.views id v at in let each = h.each x in below
     (slice_index s.words 0) size.count (omega (arith, le, each, some_there))
@@ -158,7 +158,7 @@ drawn_below size s id v h at x some_there = let le = one_of (λ u. times x u.dra
     below : (n count : ℕ) → 0 < once_below x (min n count) → x < n
     below n count p = grind (arith, nat_tests)
 
-pub steps : (size : Size) (slots id : ℕ) (me : Me (Unit {0}) TokenView) → me.0.count ≡ size.count → 0 < me.0.parts → size.count + size.parts < 2 ^ 64
+pub steps : (size : Size) (slots id : ℕ) (me : Me (Unit {0}) WordTokenView) → me.0.count ≡ size.count → 0 < me.0.parts → size.count + size.parts < 2 ^ 64
     → me.0.over ≡ false
     → Allows (IsDrawn size) slots id me 0 (λ n. (n + 1) % 2 ^ 64) (Draws (step slots 0 1 0 none) me)
 steps size slots id me count part small on s h len at fits =
@@ -177,15 +177,15 @@ opens size = record {
     none_below : (x count : ℕ) → 0 ≡ once_below x (min 0 count)
     none_below x count = grind (arith, nat_tests)
 
-    first_view : (id : ℕ) (v : TokenView) → get_elem? (fresh size.parts size.count ∷ []) id ≡ some v → v ≡ fresh size.parts size.count
+    first_view : (id : ℕ) (v : WordTokenView) → get_elem? (fresh size.parts size.count ∷ []) id ≡ some v → v ≡ fresh size.parts size.count
     first_view zero v e = cc e
     first_view (suc id) v e = absurd (cc e)
 
-pub deals : (size : Size) (id : ℕ) (v : TokenView) → v ≡ fresh v.parts v.count → 0 < v.parts
+pub deals : (size : Size) (id : ℕ) (v : WordTokenView) → v ≡ fresh v.parts v.count → 0 < v.parts
     → Splits (IsDrawn size) id v (fresh (v.parts - 1) v.count) (fresh 1 v.count)
 deals size id v new part s h at =
-    let left : TokenView = fresh (v.parts - 1) v.count in
-    let right : TokenView = fresh 1 v.count in
+    let left : WordTokenView = fresh (v.parts - 1) v.count in
+    let right : WordTokenView = fresh 1 v.count in
     let drawn : v.drawn ≡ [] = ap (λ u. u.drawn) new in
     let over : v.over ≡ false = ap (λ u. u.over) new in
     record {
@@ -228,9 +228,9 @@ either_over false b e = inr e
 nil_both : (xs ys : List ℕ) → xs ≡ [] → ys ≡ [] → xs ++ ys ≡ []
 nil_both xs ys p q = rw (p, q) refl
 
-pub merges : (size : Size) (id other : ℕ) (v w : TokenView) → Joins (IsDrawn size) id v other w (merged v w) (fresh 0 0)
+pub merges : (size : Size) (id other : ℕ) (v w : WordTokenView) → Joins (IsDrawn size) id v other w (merged v w) (fresh 0 0)
 merges size id other v w s h at apart got =
-    let both : TokenView = merged v w in
+    let both : WordTokenView = merged v w in
     let there : get_elem? s.views other ≡ some w = elim (set_get s.views id other both w got) [
       | inl q ↦ absurd (apart q.0)
       | inr q ↦ q.1
@@ -266,7 +266,7 @@ merges size id other v w s h at apart got =
       ];
     }
 
-pub tells : (size : Size) (slots id : ℕ) (me : Me (Unit {0}) TokenView) → me.0.count ≡ size.count → size.parts ≤ me.0.parts
+pub tells : (size : Size) (slots id : ℕ) (me : Me (Unit {0}) WordTokenView) → me.0.count ≡ size.count → size.parts ≤ me.0.parts
     → Allows (IsDrawn size) slots id me 0 (λ n. n) (Totals (step slots 0 0 0 none) me)
 tells size slots id me count all s h len at fits =
     let n : ℕ = slice_index s.words 0 in

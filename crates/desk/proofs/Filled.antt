@@ -7,26 +7,26 @@ use Rattle.trials.specs.Trial.{AreResults}
 use Rattle.trials.specs.declared.verdict.TrialResult.{TrialResult}
 use Rattle.trials.specs.Terms.{Plan}
 use Rattle.desk.specs.Counting.{times, once_below}
-use Rattle.desk.specs.Seats.{SeatView}
+use Rattle.desk.specs.Seats.{DeskSeatView}
 use Rattle.desk.specs.Closing.{IsPlace, ArePlaces, AreClaimed, AreFilled, HasPostedAll, claims_of, any_told}
 
-claimed_by : (x : ℕ) (ss : List SeatView) → 0 < claims_of x ss → (i : ℕ) × (s : SeatView) × (slice_get ss i ≡ Some s) × (0 < times x s.claimed)
+claimed_by : (x : ℕ) (ss : List DeskSeatView) → 0 < claims_of x ss → (i : ℕ) × (s : DeskSeatView) × (slice_get ss i ≡ Some s) × (0 < times x s.claimed)
 claimed_by x [] p = absurd (omega (arith, p))
 claimed_by x (s ∷ ss) p = by_case (times x s.claimed) refl (λ q. claimed_by x ss q)
   where
-    by_case : (n : ℕ) → times x s.claimed ≡ n → (0 < claims_of x ss → (i : ℕ) × (t : SeatView) × (slice_get ss i ≡ Some t) × (0 < times x t.claimed))
-        → (i : ℕ) × (t : SeatView) × (slice_get (s ∷ ss) i ≡ Some t) × (0 < times x t.claimed)
+    by_case : (n : ℕ) → times x s.claimed ≡ n → (0 < claims_of x ss → (i : ℕ) × (t : DeskSeatView) × (slice_get ss i ≡ Some t) × (0 < times x t.claimed))
+        → (i : ℕ) × (t : DeskSeatView) × (slice_get (s ∷ ss) i ≡ Some t) × (0 < times x t.claimed)
     by_case zero e rest = let q = rest (omega (arith, e, p)) in (suc q.0, q.1, q.2, q.3)
     by_case (suc n) e rest = (0, s, refl, omega (arith, e))
 
 one_there : (x n : ℕ) → x < n → 0 < once_below x n
 one_there x n lt = grind (arith, nat_tests)
 
-all_at : (P : SeatView → Type 0) (ss : List SeatView) (i : ℕ) (s : SeatView) → All P ss → slice_get ss i ≡ Some s → P s
+all_at : (P : DeskSeatView → Type 0) (ss : List DeskSeatView) (i : ℕ) (s : DeskSeatView) → All P ss → slice_get ss i ≡ Some s → P s
 all_at P ss i s h e = subst P (get_or_from_slice_get ss i s s e) (h i s (slice_get_within ss i s e))
 
 -- a place isn't empty
-stands : (plan : Plan) (n : ℕ) (ss : List SeatView) (k : ℕ) (o : Option TrialResult) → AreClaimed n ss → any_told ss ≡ true → All HasPostedAll ss
+stands : (plan : Plan) (n : ℕ) (ss : List DeskSeatView) (k : ℕ) (o : Option TrialResult) → AreClaimed n ss → any_told ss ≡ true → All HasPostedAll ss
     → k < n → IsPlace plan ss k o
     → (r : TrialResult) × (o ≡ Some r)
 stands plan n ss k (Some r) claims told posted lt place = (r, refl)
@@ -44,7 +44,7 @@ gathered (o ∷ places) h =
     let first = h 0 o refl in
     let rest = gathered places (λ k p e. h (suc k) p e) in (first.0 ∷ rest.0, ap (λ x. x ∷ places) first.1 ∙ ap (λ l. Some first.0 ∷ l) rest.1)
 
-pub filled : (plan : Plan) (n : ℕ) (ss : List SeatView) (places : List (Option TrialResult)) → AreClaimed n ss → ArePlaces plan n ss places
+pub filled : (plan : Plan) (n : ℕ) (ss : List DeskSeatView) (places : List (Option TrialResult)) → AreClaimed n ss → ArePlaces plan n ss places
     → any_told ss ≡ true → All HasPostedAll ss
     → AreFilled places
 filled plan n ss places claims h told posted =
@@ -56,7 +56,7 @@ some_of [] k r e = absurd (cc e)
 some_of (x ∷ xs) zero r e = let same : x ≡ r = cc e in ap (λ y. Some (Some y)) same
 some_of (x ∷ xs) (suc k) r e = some_of xs k r e
 
-pub batched : (plan : Plan) (n : ℕ) (ss : List SeatView) (places : List (Option TrialResult)) → ArePlaces plan n ss places
+pub batched : (plan : Plan) (n : ℕ) (ss : List DeskSeatView) (places : List (Option TrialResult)) → ArePlaces plan n ss places
     → (results : List TrialResult) → places ≡ map (λ found. Some found) results
     → AreResults plan.terms plan.tree n results
 batched plan n ss places h results e = record {
@@ -65,7 +65,7 @@ batched plan n ss places h results e = record {
 }
 
 -- the places, as the list is read
-pub placed : (plan : Plan) (n : ℕ) (ss : List SeatView) (places : List (Option TrialResult)) → length places ≡ n
+pub placed : (plan : Plan) (n : ℕ) (ss : List DeskSeatView) (places : List (Option TrialResult)) → length places ≡ n
     → ((k : ℕ) → k < n → IsPlace plan ss k (get_or places k None)) → ArePlaces plan n ss places
 placed plan n ss places long h = record {
   count = long;

@@ -8,14 +8,14 @@ use Rattle.std.specs.List.Sorted.{IsStrictlyIncreasing}
 use Rattle.once_cell.specs.Once.{Agrees}
 use Rattle.atomic_table.specs.Table.{Me}
 use Rattle.trials.specs.declared.verdict.TrialResult.{TrialResult}
-use Rattle.desk.specs.declared.word.TokenView.{TokenView}
-use Rattle.desk.specs.declared.seats.Stage.{Stage}
-use Rattle.desk.specs.declared.seats.Stage.TheVariants.{Free, Claimed, Posted}
+use Rattle.desk.specs.declared.word.WordTokenView.{WordTokenView}
+use Rattle.desk.specs.declared.seats.NumberStage.{NumberStage}
+use Rattle.desk.specs.declared.seats.NumberStage.TheVariants.{Free, Claimed, Posted}
 use Rattle.atomic_table.specs.Seated.{TableId}
 use Rattle.desk.specs.Counting.{times}
-use Rattle.desk.specs.Seats.{SeatView, new_seat, with_claim, with_post}
+use Rattle.desk.specs.Seats.{DeskSeatView, new_seat, with_claim, with_post}
 use Rattle.desk.specs.inner.Drawing.{fresh}
-use Rattle.desk.specs.inner.Keeping.{IsSeat, IsOwn, is_claimed, is_posted}
+use Rattle.desk.specs.inner.Keeping.{IsDeskSeat, IsOwn, is_claimed, is_posted}
 use Rattle.desk.proofs.Drawing.{times-append}
 
 pub at_cases : (k n : ℕ) → (k ≡ n) ⊎ (k ≢ n)
@@ -64,7 +64,7 @@ pub above : (n : ℕ) → nat_lt 0 n ≡ true → 0 < n
 above n p = grind (arith, nat_tests)
 
 same_view : (p p' n n' : ℕ) (l : List ℕ) (b b' : Bool) → p ≡ p' → n ≡ n' → b ≡ b'
-    → ◌≡◌ {A = Me (Unit {0}) TokenView} (record { parts = p; count = n; drawn = l; over = b }, []) (record { parts = p'; count = n'; drawn = l; over = b' }, [])
+    → ◌≡◌ {A = Me (Unit {0}) WordTokenView} (record { parts = p; count = n; drawn = l; over = b }, []) (record { parts = p'; count = n'; drawn = l; over = b' }, [])
 same_view p p' n n' l b b' e f g = rw (e, f, g) refl
 
 -- a place that is set to what stands there
@@ -72,34 +72,34 @@ set_same : (xs : List Bool) (k : ℕ) (b : Bool) → get_or xs k false ≡ b →
 set_same xs k b e = ap (λ x. slice_set xs k x) (sym e) ∙ set-get_or xs k false
 
 -- a number that is claimed now
-pub claims_claimed : (stages : List Stage) (k : ℕ) → map is_claimed (slice_set stages k Claimed) ≡ slice_set (map is_claimed stages) k true
+pub claims_claimed : (stages : List NumberStage) (k : ℕ) → map is_claimed (slice_set stages k Claimed) ≡ slice_set (map is_claimed stages) k true
 claims_claimed stages k = map-set is_claimed stages k Claimed
 
-pub posts_claimed : (stages : List Stage) (k : ℕ) → get_or (map is_posted stages) k false ≡ false
+pub posts_claimed : (stages : List NumberStage) (k : ℕ) → get_or (map is_posted stages) k false ≡ false
     → map is_posted (slice_set stages k Claimed) ≡ map is_posted stages
 posts_claimed stages k e = map-set is_posted stages k Claimed ∙ set_same (map is_posted stages) k false e
 
 -- a number that is posted now
-pub claims_posted : (stages : List Stage) (k : ℕ) → get_or (map is_claimed stages) k false ≡ true
+pub claims_posted : (stages : List NumberStage) (k : ℕ) → get_or (map is_claimed stages) k false ≡ true
     → map is_claimed (slice_set stages k Posted) ≡ map is_claimed stages
 claims_posted stages k e = map-set is_claimed stages k Posted ∙ set_same (map is_claimed stages) k true e
 
-pub posts_posted : (stages : List Stage) (k : ℕ) → map is_posted (slice_set stages k Posted) ≡ slice_set (map is_posted stages) k true
+pub posts_posted : (stages : List NumberStage) (k : ℕ) → map is_posted (slice_set stages k Posted) ≡ slice_set (map is_posted stages) k true
 posts_posted stages k = map-set is_posted stages k Posted
 
 -- a number above all that was claimed isn't posted
-pub unposted : (me : Me (Unit {0}) TokenView) (count : ℕ) (told : Bool) (claims posts : List Bool) (known : List (Option TrialResult)) (k : ℕ)
-    → IsSeat me count told claims posts known → ((x : ℕ) → 0 < times x me.0.drawn → x < k) → get_or posts k false ≡ false
+pub unposted : (me : Me (Unit {0}) WordTokenView) (count : ℕ) (told : Bool) (claims posts : List Bool) (known : List (Option TrialResult)) (k : ℕ)
+    → IsDeskSeat me count told claims posts known → ((x : ℕ) → 0 < times x me.0.drawn → x < k) → get_or posts k false ≡ false
 unposted me count told claims posts known k h below = by_case (get_or posts k false) refl
   where
     by_case : (b : Bool) → get_or posts k false ≡ b → b ≡ false
     by_case false e = refl
     by_case true e = let lt = below k (h.posts_are k e).0 in absurd (omega (arith, lt))
 
-pub claim_kept : (me me' : Me (Unit {0}) TokenView) (count : ℕ) (told : Bool) (claims posts : List Bool) (known : List (Option TrialResult)) (k : ℕ)
-    → IsSeat me count told claims posts known → told ≡ false → k < count → ((x : ℕ) → 0 < times x me.0.drawn → x < k)
+pub claim_kept : (me me' : Me (Unit {0}) WordTokenView) (count : ℕ) (told : Bool) (claims posts : List Bool) (known : List (Option TrialResult)) (k : ℕ)
+    → IsDeskSeat me count told claims posts known → told ≡ false → k < count → ((x : ℕ) → 0 < times x me.0.drawn → x < k)
     → me' ≡ (record { parts = me.0.parts; count = me.0.count; drawn = me.0.drawn ++ k ∷ []; over = false }, [])
-    → IsSeat me' count told (slice_set claims k true) posts known
+    → IsDeskSeat me' count told (slice_set claims k true) posts known
 claim_kept me me' count told claims posts known k h on lt below e' =
     let e : me' ≡ (record { parts = 1; count = count; drawn = me.0.drawn ++ k ∷ []; over = told }, []) =
     e' ∙ same_view me.0.parts 1 me.0.count count (me.0.drawn ++ k ∷ []) false told (ap (λ m. m.0.parts) h.me_is) (ap (λ m. m.0.count) h.me_is) (sym on) in
@@ -125,19 +125,19 @@ claim_kept me me' count told claims posts known k h on lt below e' =
         get_or-set_other claims k j true false ne ∙ (h.claims_are j lt_j ∙ ap (λ m. nat_lt 0 m) same)
 
 -- the same, as the stages say it
-pub claimed_kept : (me me' : Me (Unit {0}) TokenView) (count : ℕ) (told : Bool) (stages : List Stage) (known : List (Option TrialResult)) (k : ℕ)
-    → IsSeat me count told (map is_claimed stages) (map is_posted stages) known → told ≡ false → k < count → ((x : ℕ) → 0 < times x me.0.drawn → x < k)
+pub claimed_kept : (me me' : Me (Unit {0}) WordTokenView) (count : ℕ) (told : Bool) (stages : List NumberStage) (known : List (Option TrialResult)) (k : ℕ)
+    → IsDeskSeat me count told (map is_claimed stages) (map is_posted stages) known → told ≡ false → k < count → ((x : ℕ) → 0 < times x me.0.drawn → x < k)
     → me' ≡ (record { parts = me.0.parts; count = me.0.count; drawn = me.0.drawn ++ k ∷ []; over = false }, [])
-    → IsSeat me' count told (map is_claimed (slice_set stages k Claimed)) (map is_posted (slice_set stages k Claimed)) known
+    → IsDeskSeat me' count told (map is_claimed (slice_set stages k Claimed)) (map is_posted (slice_set stages k Claimed)) known
 claimed_kept me me' count told stages known k h on lt below e =
     let none = unposted me count told (map is_claimed stages) (map is_posted stages) known k h below in
-    subst (λ l. IsSeat me' count told l (map is_posted (slice_set stages k Claimed)) known) (sym (claims_claimed stages k))
-    (subst (λ l. IsSeat me' count told (slice_set (map is_claimed stages) k true) l known) (sym (posts_claimed stages k none))
+    subst (λ l. IsDeskSeat me' count told l (map is_posted (slice_set stages k Claimed)) known) (sym (claims_claimed stages k))
+    (subst (λ l. IsDeskSeat me' count told (slice_set (map is_claimed stages) k true) l known) (sym (posts_claimed stages k none))
     (claim_kept me me' count told (map is_claimed stages) (map is_posted stages) known k h on lt below e))
 
 -- the seat once it has claimed the number
 pub claim_seen : (table table' : TableId) (cells drawn drawn' : List ℕ) (told : Bool) (posted posted' : List Bool) (known : List (Option TrialResult))
-    (k : ℕ) (s : SeatView)
+    (k : ℕ) (s : DeskSeatView)
     → record { desk = record { table = table; cells = cells }; claimed = drawn; told = told; posted = posted; known = known } ≡ s → table' ≡ table →
     drawn' ≡ drawn ++ k ∷ [] → posted' ≡ posted
     → record { desk = record { table = table'; cells = cells }; claimed = drawn'; told = told; posted = posted'; known = known } ≡ with_claim s k
@@ -145,7 +145,7 @@ claim_seen table table' cells drawn drawn' told posted posted' known k s e t d p
 
 -- the seat once it has posted the result
 pub post_seen : (table : TableId) (cells cells' drawn : List ℕ) (told : Bool) (posted posted' : List Bool) (known known' : List (Option TrialResult))
-    (k : ℕ) (r : TrialResult) (s : SeatView)
+    (k : ℕ) (r : TrialResult) (s : DeskSeatView)
     → record { desk = record { table = table; cells = cells }; claimed = drawn; told = told; posted = posted; known = known } ≡ s → cells' ≡ cells →
     posted' ≡ slice_set posted k true → known' ≡ slice_set known k (Some r)
     → record { desk = record { table = table; cells = cells' }; claimed = drawn; told = told; posted = posted'; known = known' } ≡ with_post s k r
@@ -166,9 +166,9 @@ free_posts zero = refl
 free_posts (suc n) = ap (λ l. false ∷ l) (free_posts n)
 
 -- a seat that has done nothing
-pub new_kept : (me : Me (Unit {0}) TokenView) (count : ℕ) (stages : List Stage) (known : List (Option TrialResult)) → me ≡ (fresh 1 count, [])
+pub new_kept : (me : Me (Unit {0}) WordTokenView) (count : ℕ) (stages : List NumberStage) (known : List (Option TrialResult)) → me ≡ (fresh 1 count, [])
     → stages ≡ replicate count Free → known ≡ replicate count None
-    → IsSeat me count false (map is_claimed stages) (map is_posted stages) known
+    → IsDeskSeat me count false (map is_claimed stages) (map is_posted stages) known
 new_kept me count stages known e s n =
     let claims : map is_claimed stages ≡ replicate count false = ap (λ l. map is_claimed l) s ∙ free_claims count in
     let posts : map is_posted stages ≡ replicate count false = ap (λ l. map is_posted l) s ∙ free_posts count in
@@ -183,17 +183,17 @@ new_kept me count stages known e s n =
       posts_are = λ k p. absurd (cc (sym p ∙ (ap (λ l. get_or l k false) posts ∙ none_true count k)));
     }
 
-pub new_seen : (table : TableId) (cells mine : List ℕ) (drawn : List ℕ) (stages : List Stage) (known : List (Option TrialResult)) → drawn ≡ []
+pub new_seen : (table : TableId) (cells mine : List ℕ) (drawn : List ℕ) (stages : List NumberStage) (known : List (Option TrialResult)) → drawn ≡ []
     → mine ≡ cells → stages ≡ replicate (length cells) Free
     → known ≡ replicate (length cells) None
     → record { desk = record { table = table; cells = mine }; claimed = drawn; told = false; posted = map is_posted stages; known = known } ≡ new_seat
     (record { table = table; cells = cells })
 new_seen table cells mine drawn stages known d c s n = rw (d, c, n, ap (λ l. map is_posted l) s ∙ free_posts (length cells)) refl
 
-pub post_kept : (me : Me (Unit {0}) TokenView) (count : ℕ) (told : Bool) (claims posts : List Bool) (known known' : List (Option TrialResult)) (k : ℕ)
+pub post_kept : (me : Me (Unit {0}) WordTokenView) (count : ℕ) (told : Bool) (claims posts : List Bool) (known known' : List (Option TrialResult)) (k : ℕ)
     (r : TrialResult)
-    → IsSeat me count told claims posts known → k < count → get_or claims k false ≡ true → r.number ≡ k → known' ≡ slice_set known k (Some r)
-    → IsSeat me count told claims (slice_set posts k true) known'
+    → IsDeskSeat me count told claims posts known → k < count → get_or claims k false ≡ true → r.number ≡ k → known' ≡ slice_set known k (Some r)
+    → IsDeskSeat me count told claims (slice_set posts k true) known'
 post_kept me count told claims posts known known' k r h lt mine number e = record {
   me_is = h.me_is;
   rises = h.rises;
@@ -218,24 +218,24 @@ post_kept me count told claims posts known known' k r h lt mine number e = recor
         (old.0, old.1, ap (λ l. get_or l j None) e ∙ (get_or-set_other known k j (Some r) None ne ∙ old.2), old.3)
 
 -- the same, as the stages say it
-pub posted_kept : (me : Me (Unit {0}) TokenView) (count : ℕ) (told : Bool) (stages : List Stage) (known known' : List (Option TrialResult)) (k : ℕ)
+pub posted_kept : (me : Me (Unit {0}) WordTokenView) (count : ℕ) (told : Bool) (stages : List NumberStage) (known known' : List (Option TrialResult)) (k : ℕ)
     (r : TrialResult)
-    → IsSeat me count told (map is_claimed stages) (map is_posted stages) known → k < count → get_or (map is_claimed stages) k false ≡ true → r.number ≡ k
+    → IsDeskSeat me count told (map is_claimed stages) (map is_posted stages) known → k < count → get_or (map is_claimed stages) k false ≡ true → r.number ≡ k
     → known' ≡ slice_set known k (Some r)
-    → IsSeat me count told (map is_claimed (slice_set stages k Posted)) (map is_posted (slice_set stages k Posted)) known'
+    → IsDeskSeat me count told (map is_claimed (slice_set stages k Posted)) (map is_posted (slice_set stages k Posted)) known'
 posted_kept me count told stages known known' k r h lt mine number e =
-    subst (λ l. IsSeat me count told l (map is_posted (slice_set stages k Posted)) known') (sym (claims_posted stages k mine))
-    (subst (λ l. IsSeat me count told (map is_claimed stages) l known') (sym (posts_posted stages k))
+    subst (λ l. IsDeskSeat me count told l (map is_posted (slice_set stages k Posted)) known') (sym (claims_posted stages k mine))
+    (subst (λ l. IsDeskSeat me count told (map is_claimed stages) l known') (sym (posts_posted stages k))
     (post_kept me count told (map is_claimed stages) (map is_posted stages) known known' k r h lt mine number e))
 
 agrees_some : {X : Type 0} (o : Option X) (x y : X) → Agrees o y → o ≡ Some x → Some y ≡ Some x
 agrees_some (Some z) x y a e = cc (a, e)
 agrees_some None x y a e = absurd (cc e)
 
-pub look_kept : (me : Me (Unit {0}) TokenView) (count : ℕ) (told : Bool) (claims posts : List Bool) (known known' : List (Option TrialResult)) (k : ℕ)
+pub look_kept : (me : Me (Unit {0}) WordTokenView) (count : ℕ) (told : Bool) (claims posts : List Bool) (known known' : List (Option TrialResult)) (k : ℕ)
     (v : TrialResult)
-    → IsSeat me count told claims posts known → k < count → Agrees (get_or known k None) v → known' ≡ slice_set known k (Some v)
-    → IsSeat me count told claims posts known'
+    → IsDeskSeat me count told claims posts known → k < count → Agrees (get_or known k None) v → known' ≡ slice_set known k (Some v)
+    → IsDeskSeat me count told claims posts known'
 look_kept me count told claims posts known known' k v h lt agrees e = record {
   me_is = h.me_is;
   rises = h.rises;
@@ -261,10 +261,10 @@ look_kept me count told claims posts known known' k v h lt agrees e = record {
         let old = h.posts_are j p in (old.0, old.1, ap (λ l. get_or l j None) e ∙ (get_or-set_other known k j (Some v) None ne ∙ old.2), old.3)
 
 -- a look that found nothing, or a value
-pub looked_kept : {X : Type 0} (val : X → TrialResult) (o : Option X) (me : Me (Unit {0}) TokenView) (count : ℕ) (told : Bool)
+pub looked_kept : {X : Type 0} (val : X → TrialResult) (o : Option X) (me : Me (Unit {0}) WordTokenView) (count : ℕ) (told : Bool)
     (claims posts : List Bool) (known known' : List (Option TrialResult)) (k : ℕ)
-    → IsSeat me count told claims posts known → k < count
+    → IsDeskSeat me count told claims posts known → k < count
     → MatchOption o ((get_or known k None ≡ None) × (known' ≡ known)) (λ x. (known' ≡ slice_set known k (Some (val x))) × Agrees (get_or known k None) (val x))
-    → IsSeat me count told claims posts known'
+    → IsDeskSeat me count told claims posts known'
 looked_kept val None me count told claims posts known known' k h lt f = rw f.1 h
 looked_kept val (Some x) me count told claims posts known known' k h lt f = look_kept me count told claims posts known known' k (val x) h lt f.1 f.0

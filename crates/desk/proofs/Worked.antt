@@ -5,13 +5,13 @@ use Rattle.std.proofs.lemmas.List.{get_or-set_other}
 use Rattle.std.specs.List.Sorted.{IsStrictlyIncreasing}
 use Rattle.trials.specs.declared.verdict.TrialResult.{TrialResult}
 use Rattle.desk.specs.Counting.{times}
-use Rattle.desk.specs.Seats.{SeatView, HasPosted, Knows, with_claim, with_post, told_no_more}
+use Rattle.desk.specs.Seats.{DeskSeatView, HasPosted, Knows, with_claim, with_post, told_no_more}
 use Rattle.desk.specs.Working.{Works}
 use Rattle.desk.proofs.Drawing.{times-append}
 use Rattle.desk.proofs.Seating.{at_cases, times_here, times_one, times_other}
 
 -- one number more was claimed and posted
-pub works_more : (old s new : SeatView) (mine : List ℕ) (k : ℕ) (r : TrialResult) → Works old s mine → new ≡ with_post (with_claim s k) k r → HasPosted new k
+pub works_more : (old s new : DeskSeatView) (mine : List ℕ) (k : ℕ) (r : TrialResult) → Works old s mine → new ≡ with_post (with_claim s k) k r → HasPosted new k
     → ((q : TrialResult) → ¬ Knows (with_claim s k) k q) → Works old new (mine ++ k ∷ [])
 works_more old s new mine k r h e here fresh =
     let posted : new.posted ≡ set s.posted k true = ap (λ v. v.posted) e in
@@ -39,7 +39,7 @@ works_more old s new mine k r h e here fresh =
       ];
     }
 
-pub works_told : (old s new : SeatView) (mine : List ℕ) → Works old s mine → new ≡ told_no_more s → Works old new mine
+pub works_told : (old s new : DeskSeatView) (mine : List ℕ) → Works old s mine → new ≡ told_no_more s → Works old new mine
 works_told old s new mine h e = record {
   desk = ap (λ v. v.desk) e ∙ h.desk;
   claimed = ap (λ v. v.claimed) e ∙ h.claimed;

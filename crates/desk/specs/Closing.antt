@@ -4,37 +4,37 @@ use Rattle.trials.specs.declared.verdict.TrialResult.{TrialResult}
 use Rattle.trials.specs.Terms.{Plan}
 use Rattle.desk.specs.Plans.{IsResultOf}
 use Rattle.desk.specs.Counting.{times, once_below}
-use Rattle.desk.specs.Seats.{SeatView, HasClaimed, HasPosted, Knows}
+use Rattle.desk.specs.Seats.{DeskSeatView, HasClaimed, HasPosted, Knows}
 
 -- how often a row of seats has claimed the number
-abbrev pub claims_of : ℕ → List SeatView → ℕ
+abbrev pub claims_of : ℕ → List DeskSeatView → ℕ
 claims_of number [] = 0
 claims_of number (seat ∷ row) = times number seat.claimed + claims_of number row
 
 -- whether one of them was told that there are no more
-abbrev pub any_told : List SeatView → Bool
+abbrev pub any_told : List DeskSeatView → Bool
 any_told [] = false
 any_told (seat ∷ row) = seat.told || any_told row
 
 -- what they claimed are the numbers below c, each once; and these are all n of them where one was told that there are no more
-pub record AreClaimed (n : ℕ) (row : List SeatView) : Type 0 where
+pub record AreClaimed (n : ℕ) (row : List DeskSeatView) : Type 0 where
   pub c : ℕ
   pub within : c ≤ n
   pub each : (number : ℕ) → claims_of number row ≡ once_below number c
   pub all : any_told row ≡ true → c ≡ n
 
 -- one of them has posted the number
-abbrev pub IsPosted : List SeatView → ℕ → Type 0
-IsPosted row number = (at : ℕ) × (seat : SeatView) × (slice_get row at ≡ Some seat) × HasPosted seat number
+abbrev pub IsPosted : List DeskSeatView → ℕ → Type 0
+IsPosted row number = (at : ℕ) × (seat : DeskSeatView) × (slice_get row at ≡ Some seat) × HasPosted seat number
 
 -- what stands at the place of a number: the result that one of them has posted, which is its trial's, or nothing where none has posted it
-abbrev pub IsPlace : Plan → List SeatView → ℕ → Option TrialResult → Type 0
+abbrev pub IsPlace : Plan → List DeskSeatView → ℕ → Option TrialResult → Type 0
 IsPlace plan row number None = ¬ IsPosted row number
 IsPlace plan row number (Some result) =
-    IsResultOf plan number result × (at : ℕ) × (seat : SeatView) × (slice_get row at ≡ Some seat) × HasPosted seat number × Knows seat number result
+    IsResultOf plan number result × (at : ℕ) × (seat : DeskSeatView) × (slice_get row at ≡ Some seat) × HasPosted seat number × Knows seat number result
 
 -- there are n places, and this stands at each
-pub record ArePlaces (plan : Plan) (n : ℕ) (row : List SeatView) (places : List (Option TrialResult)) : Type 0 where
+pub record ArePlaces (plan : Plan) (n : ℕ) (row : List DeskSeatView) (places : List (Option TrialResult)) : Type 0 where
   pub count : length places ≡ n
   pub each : (number : ℕ) (place : Option TrialResult) → slice_get places number ≡ Some place → IsPlace plan row number place
 
@@ -43,5 +43,5 @@ abbrev pub AreFilled : List (Option TrialResult) → Type 0
 AreFilled places = (results : List TrialResult) × (places ≡ map (λ found. Some found) results)
 
 -- the seat has posted all that it has claimed
-abbrev pub HasPostedAll : SeatView → Type 0
+abbrev pub HasPostedAll : DeskSeatView → Type 0
 HasPostedAll seat = (number : ℕ) → HasClaimed seat number → HasPosted seat number

@@ -1,6 +1,6 @@
 -- What the trials of a desk are.
 use Rattle.std.specs.Prelude.{ℕ, []}
-use Rattle.both_tables.specs.Tables.{baseline}
+use Rattle.tables.specs.Tables.{baseline}
 use Rattle.scenario.specs.Tree.{Seq, Nil, plain}
 use Rattle.trials.specs.Terms.{Plan}
 use Rattle.trials.specs.Trial.{IsResult}

@@ -20,7 +20,7 @@ pub record DeskView : Type 0 where
 
 -- a seat: its desk, the numbers that it claimed, whether it was told that there are no more; and of each number whether it has posted it, and what
 -- result it has posted or found there
-pub record SeatView : Type 0 where
+pub record DeskSeatView : Type 0 where
   pub desk : DeskId
   pub claimed : List ℕ
   pub told : Bool
@@ -28,39 +28,39 @@ pub record SeatView : Type 0 where
   pub known : List (Option TrialResult)
 
 -- the seat has claimed the number
-abbrev pub HasClaimed : SeatView → ℕ → Type 0
+abbrev pub HasClaimed : DeskSeatView → ℕ → Type 0
 HasClaimed seat number = 0 < times number seat.claimed
 
 -- the seat has posted the number
-abbrev pub HasPosted : SeatView → ℕ → Type 0
+abbrev pub HasPosted : DeskSeatView → ℕ → Type 0
 HasPosted seat number = slice_index_or seat.posted number false ≡ true
 
 -- the seat has posted or found this result of the number. That it is of this number is said beside it: a cell's type says whose
 -- trial's result lies in it, and not of which number
-abbrev pub Knows : SeatView → ℕ → TrialResult → Type 0
+abbrev pub Knows : DeskSeatView → ℕ → TrialResult → Type 0
 Knows seat number result = (slice_index_or seat.known number None ≡ Some result) × (result.number ≡ number)
 
 -- a seat that has done nothing
-abbrev pub new_seat : DeskId → SeatView
+abbrev pub new_seat : DeskId → DeskSeatView
 new_seat desk =
     record { desk = desk; claimed = []; told = false; posted = replicate (numbers_of desk) false; known = replicate (numbers_of desk) None }
 
 -- the seat once it has claimed the number
-abbrev pub with_claim : SeatView → ℕ → SeatView
+abbrev pub with_claim : DeskSeatView → ℕ → DeskSeatView
 with_claim seat number =
     record { desk = seat.desk; claimed = seat.claimed ++ number ∷ []; told = seat.told; posted = seat.posted; known = seat.known }
 
 -- the seat once it was told that there are no more
-abbrev pub told_no_more : SeatView → SeatView
+abbrev pub told_no_more : DeskSeatView → DeskSeatView
 told_no_more seat = record { desk = seat.desk; claimed = seat.claimed; told = true; posted = seat.posted; known = seat.known }
 
 -- the seat once something is known or isn't known of the number
-abbrev pub with_known : SeatView → ℕ → Option TrialResult → SeatView
+abbrev pub with_known : DeskSeatView → ℕ → Option TrialResult → DeskSeatView
 with_known seat number known =
     record { desk = seat.desk; claimed = seat.claimed; told = seat.told; posted = seat.posted; known = slice_set seat.known number known }
 
 -- the seat once it has posted this result of the number
-abbrev pub with_post : SeatView → ℕ → TrialResult → SeatView
+abbrev pub with_post : DeskSeatView → ℕ → TrialResult → DeskSeatView
 with_post seat number result =
     record {
       desk = seat.desk;

@@ -2,10 +2,10 @@
 use Rattle.std.specs.Prelude.{◌≡◌, ℕ, ◌<◌, ◌⊎◌, List, ◌++◌}
 use Rattle.trials.specs.declared.verdict.TrialResult.{TrialResult}
 use Rattle.desk.specs.Counting.{times}
-use Rattle.desk.specs.Seats.{SeatView, HasPosted, Knows, with_claim}
+use Rattle.desk.specs.Seats.{DeskSeatView, HasPosted, Knows, with_claim}
 
 -- the seat has claimed these numbers more, and posted exactly these
-pub record Works (old new : SeatView) (numbers : List ℕ) : Type 0 where
+pub record Works (old new : DeskSeatView) (numbers : List ℕ) : Type 0 where
   pub desk : new.desk ≡ old.desk
   pub claimed : new.claimed ≡ old.claimed ++ numbers
   pub posted : (number : ℕ) → 0 < times number numbers → HasPosted new number
@@ -14,5 +14,5 @@ pub record Works (old new : SeatView) (numbers : List ℕ) : Type 0 where
   pub known : (number : ℕ) (result : TrialResult) → Knows old number result → Knows new number result
 
 -- the same, and one number more is claimed, which isn't posted
-abbrev pub Stops : SeatView → SeatView → Type 0
-Stops old new = (numbers : List ℕ) × (seat : SeatView) × (last : ℕ) × Works old seat numbers × (new ≡ with_claim seat last) × ¬ HasPosted new last
+abbrev pub Stops : DeskSeatView → DeskSeatView → Type 0
+Stops old new = (numbers : List ℕ) × (seat : DeskSeatView) × (last : ℕ) × Works old seat numbers × (new ≡ with_claim seat last) × ¬ HasPosted new last

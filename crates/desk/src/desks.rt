@@ -9,7 +9,7 @@ ghost use Rattle.desk.specs.Seats.{new_seat, numbers_of};
 use crate::cells::{Cell, Posted, get_at, make_cells, make_notes, set_at};
 use crate::faults::{DeskFault, PostFault};
 use crate::jobs::{Job, Planned};
-use crate::seats::{DeskSeat, Stage, make_stages};
+use crate::seats::{DeskSeat, NumberStage, make_stages};
 use crate::word::{Size, Token, Word, deal_part, draw_number, new_word};
 use base::NoMemory;
 use std::alloc::Global;
@@ -106,7 +106,7 @@ impl<'j, D: Planned> Desk<'j, D> {
         }
         match draw_number(&self.word, &mut seat.token, self.cells.len() as u64) {
             Some(number) => {
-                seat.stages[number as usize] = Stage::Claimed;
+                seat.stages[number as usize] = NumberStage::Claimed;
                 Some(number as u32)
             }
             None => {
@@ -171,7 +171,7 @@ impl<'j, D: Planned> Desk<'j, D> {
         if !set_at(&self.cells, &mut seat.notes, place, posted) {
             return false;
         }
-        seat.stages[place] = Stage::Posted;
+        seat.stages[place] = NumberStage::Posted;
         true
     }
 

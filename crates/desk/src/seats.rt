@@ -1,7 +1,7 @@
 //! Those who claim numbers and post their results.
 
 ghost use Rattle.std.specs.Prelude.{◌≡◌, replicate, IfOk};
-ghost use Rattle.desk.specs.declared.seats.Stage.TheVariants.{Free};
+ghost use Rattle.desk.specs.declared.seats.NumberStage.TheVariants.{Free};
 
 use crate::cells::CellNote;
 use crate::faults::PostFault;
@@ -13,7 +13,7 @@ use std::marker::Model;
 
 /// How far a seat is with a number.
 #[derive(Clone, Copy, Debug, PartialEq, Eq)]
-pub(crate) enum Stage {
+pub(crate) enum NumberStage {
     /// It hasn't claimed it.
     Free,
     /// It has claimed it, and not posted it.
@@ -23,10 +23,10 @@ pub(crate) enum Stage {
 }
 
 /// The stages of so many numbers, of which none is claimed.
-pub(crate) fn make_stages(alloc: Global, count: usize) -> Result<Vec<Stage>, NoMemory>
+pub(crate) fn make_stages(alloc: Global, count: usize) -> Result<Vec<NumberStage>, NoMemory>
     ensures { IfOk result (λ stages. stages.items ≡ replicate count Free) }
 {
-    Ok(vec![in alloc; Stage::Free; count]?)
+    Ok(vec![in alloc; NumberStage::Free; count]?)
 }
 
 /// One who claims numbers at a desk and posts their results.
@@ -34,16 +34,16 @@ pub(crate) fn make_stages(alloc: Global, count: usize) -> Result<Vec<Stage>, NoM
 pub struct DeskSeat<D: Planned> {
     pub(crate) token: Token,
     pub(crate) told: bool,
-    pub(crate) stages: Vec<Stage>,
+    pub(crate) stages: Vec<NumberStage>,
     pub(crate) notes: Vec<CellNote<D>>,
 }
 
 impl<D: Planned> Model for DeskSeat<D> {
     ghost use Rattle.std.specs.Prelude.{map, length};
-    ghost use Rattle.desk.specs.Seats.{SeatView};
-    ghost use Rattle.desk.specs.inner.Keeping.{IsSeat, is_claimed, is_posted};
+    ghost use Rattle.desk.specs.Seats.{DeskSeatView};
+    ghost use Rattle.desk.specs.inner.Keeping.{IsDeskSeat, is_claimed, is_posted};
 
-    ghost Value = { SeatView };
+    ghost Value = { DeskSeatView };
 
     ghost view = { λ s. record {
       desk = record { table = s.token.table_id; cells = map (λ n. n.cell) s.notes.items };
@@ -53,7 +53,7 @@ impl<D: Planned> Model for DeskSeat<D> {
       known = map (λ n. n.known) s.notes.items;
     } };
 
-    ghost invariant = { λ s. IsSeat s.token.me (length s.notes.items) s.told
+    ghost invariant = { λ s. IsDeskSeat s.token.me (length s.notes.items) s.told
         (map is_claimed s.stages.items) (map is_posted s.stages.items) (map (λ n. n.known) s.notes.items) };
 }
 
@@ -70,9 +70,9 @@ impl<D: Planned> DeskSeat<D> {
         ensures unposted { IfNone result (¬ HasPosted self.now number) }
     {
         match self.stages.get(number as usize) {
-            Some(Stage::Claimed) => None,
-            Some(Stage::Posted) => Some(PostFault::Already),
-            Some(Stage::Free) | None => Some(PostFault::NotYours),
+            Some(NumberStage::Claimed) => None,
+            Some(NumberStage::Posted) => Some(PostFault::Already),
+            Some(NumberStage::Free) | None => Some(PostFault::NotYours),
         }
     }
 
@@ -81,7 +81,7 @@ impl<D: Planned> DeskSeat<D> {
         ensures { result ≡ slice_index_or self.now.posted number false }
     {
         match self.stages.get(number) {
-            Some(Stage::Posted) => true,
+            Some(NumberStage::Posted) => true,
             _ => false,
         }
     }

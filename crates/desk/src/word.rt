@@ -10,7 +10,7 @@ use std::alloc::{AllocError, Global};
 use std::collections::LinkedList;
 
 /// What a token knows. No value of it is made.
-pub struct TokenView {
+pub struct WordTokenView {
     pub parts: u64,
     pub count: u64,
     pub drawn: LinkedList<u64>,
@@ -26,7 +26,7 @@ pub struct Size {
 
 pub struct Numbers;
 
-impl TableRule<(), TokenView, Size> for Numbers {
+impl TableRule<(), WordTokenView, Size> for Numbers {
     ghost use Rattle.desk.specs.inner.Drawing.{IsDrawn, fresh};
 
     ghost holds = { IsDrawn };
@@ -36,7 +36,7 @@ impl TableRule<(), TokenView, Size> for Numbers {
 
 pub struct Draw;
 
-impl Play<(), TokenView> for Draw {
+impl Play<(), WordTokenView> for Draw {
     ghost use Rattle.desk.specs.inner.Drawing.{Draws};
 
     ghost then = { Draws };
@@ -44,15 +44,15 @@ impl Play<(), TokenView> for Draw {
 
 pub struct Total;
 
-impl Play<(), TokenView> for Total {
+impl Play<(), WordTokenView> for Total {
     ghost use Rattle.desk.specs.inner.Drawing.{Totals};
 
     ghost then = { Totals };
 }
 
-pub struct Deal;
+pub struct DealWord;
 
-impl Split<TokenView> for Deal {
+impl Split<WordTokenView> for DealWord {
     ghost use Rattle.std.specs.Prelude.{◌-◌};
     ghost use Rattle.desk.specs.inner.Drawing.{fresh};
 
@@ -63,7 +63,7 @@ impl Split<TokenView> for Deal {
 
 pub struct Merge;
 
-impl Join<TokenView> for Merge {
+impl Join<WordTokenView> for Merge {
     ghost use Rattle.desk.specs.inner.Drawing.{merged, fresh};
 
     ghost both = { merged };
@@ -71,9 +71,9 @@ impl Join<TokenView> for Merge {
     ghost spent = { fresh 0 0 };
 }
 
-pub type Word = Table<(), TokenView, Size, Numbers, Global>;
+pub type Word = Table<(), WordTokenView, Size, Numbers, Global>;
 
-pub type Token = TableSeat<(), TokenView>;
+pub type Token = TableSeat<(), WordTokenView>;
 
 /// The word, and a token with every part.
 pub fn new_word(alloc: Global, size: Size) -> Result<(Word, Token), AllocError>
@@ -92,7 +92,7 @@ pub fn deal_part(word: &Word, token: &mut Token) -> Token
     ensures left { (token.new.me ≡ (fresh (token.old.me.0.parts - 1) token.old.me.0.count, [])) × (token.new.table_id ≡ token.old.table_id) }
     ensures part { (result.me ≡ (fresh 1 token.old.me.0.count, [])) × (result.table_id ≡ token.old.table_id) }
 {
-    word.shared.split_seat::<Deal>(token)
+    word.shared.split_seat::<DealWord>(token)
 }
 
 /// Draws a number by one step, and waits for nobody.

@@ -4,7 +4,7 @@ use Rattle.directory_table.specs.declared.state.DirectoryState.TheVariants.{I, S
 use Rattle.directory_table.specs.declared.event.DirectoryEvent.{DirectoryEvent}
 use Rattle.directory_table.specs.declared.event.DirectoryEvent.TheVariants as event
 use Rattle.base.specs.declared.controller.protocol.Protocol.{Protocol}
-use Rattle.base.specs.declared.controller.entry.Entry.TheVariants.{Blank}
+use Rattle.base.specs.declared.controller.entry.CellEntry.TheVariants.{Blank}
 use Rattle.directory_table.specs.Table.{DirectoryEntry, cell, event_number, state_number}
 use Rattle.directory_table.specs.Baseline.{baseline_cells, baseline_entry, baseline_row, all_events}
 

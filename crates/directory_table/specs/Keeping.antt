@@ -11,6 +11,6 @@ abbrev pub IsKeptAt : Protocol → Cells → DirectoryState → DirectoryEvent �
 IsKeptAt protocol cells state event = (cell cells state event ≡ baseline_entry protocol state event) ⊎ (has_entry protocol (cell cells state event) ≡ true)
 
 -- there is a cell for each state and each event, and each keeps to the protocol
-pub record IsTable (protocol : Protocol) (cells : Cells) : Type 0 where
+pub record IsDirectoryTable (protocol : Protocol) (cells : Cells) : Type 0 where
   pub whole : IsWhole cells
   pub keeps : (state : DirectoryState) (event : DirectoryEvent) → IsKeptAt protocol cells state event

@@ -2,8 +2,8 @@
 use Rattle.std.specs.Prelude.{ℕ, List, [], ◌∷◌, Bool, true, false, ◌&&◌, if◌then◌else◌}
 use Rattle.base.specs.declared.controller.protocol.Protocol.{Protocol}
 use Rattle.base.specs.declared.controller.protocol.Protocol.TheVariants.{Msi}
-use Rattle.base.specs.declared.controller.entry.Entry.{Entry}
-use Rattle.base.specs.declared.controller.entry.Entry.TheVariants.{Act}
+use Rattle.base.specs.declared.controller.entry.CellEntry.{CellEntry}
+use Rattle.base.specs.declared.controller.entry.CellEntry.TheVariants.{Act}
 use Rattle.base.specs.declared.controller.entry.Change.{Change}
 use Rattle.base.specs.Cells as cells
 use Rattle.directory_table.specs.declared.state.DirectoryState.{DirectoryState}
@@ -32,7 +32,7 @@ event_number Data = 6
 
 -- what a cell of the directory's table holds
 abbrev pub DirectoryEntry : Type 0
-DirectoryEntry = Entry DirectoryState DirectoryAction
+DirectoryEntry = CellEntry DirectoryState DirectoryAction
 
 -- an entry that one cell is to have
 abbrev pub DirectoryChange : Type 0
@@ -78,15 +78,15 @@ has_entry protocol (Act next actions) = has_actions protocol actions
 has_entry protocol other = true
 
 -- a table as contracts see it: its protocol, and its cells
-pub record Table : Type 0 where
+pub record DirectoryTableView : Type 0 where
   pub protocol : Protocol
   pub cells : Cells
 
 -- this table with another entry in a cell; where its protocol hasn't got what is named, it stays as it is
-abbrev pub with_entry : Table → DirectoryState → DirectoryEvent → DirectoryEntry → Table
+abbrev pub with_entry : DirectoryTableView → DirectoryState → DirectoryEvent → DirectoryEntry → DirectoryTableView
 with_entry table state event entry = if has_entry table.protocol entry then record table { cells = with_cell table.cells state event entry } else table
 
 -- this table after these changes, made in order
-abbrev pub laid_over : List DirectoryChange → Table → Table
+abbrev pub laid_over : List DirectoryChange → DirectoryTableView → DirectoryTableView
 laid_over [] table = table
 laid_over (c ∷ changes) table = laid_over changes (with_entry table c.state c.event c.entry)

@@ -8,7 +8,7 @@ use crate::actions::DirectoryAction::{
 };
 use crate::state::DirectoryState::{self, I, M, S, SD};
 use crate::table::DirectoryEntry;
-use base::controller::Entry::{Blank, Stall};
+use base::controller::CellEntry::{Blank, Stall};
 use base::controller::Protocol;
 
 /// The rows of a protocol's baseline (after Primer, section 8.2), each with its cells in the order of the events.

@@ -2,20 +2,20 @@ ghost use Rattle.std.specs.Prelude.{◌≡◌, true};
 ghost use Rattle.base.specs.declared.controller.protocol.Protocol.TheVariants as Protocol;
 ghost use Rattle.directory_table.specs.Table.{cell, laid_over, with_cell, with_entry, has_actions, has_entry, IsWhole};
 ghost use Rattle.directory_table.specs.Baseline.{baseline_cells, baseline_entry};
-ghost use Rattle.directory_table.specs.Keeping.{IsTable};
+ghost use Rattle.directory_table.specs.Keeping.{IsDirectoryTable};
 
 use crate::actions::DirectoryAction;
 use crate::baseline::baseline_rows;
 use crate::event::DirectoryEvent;
 use crate::state::DirectoryState;
-use base::controller::{Actions, Change, Entry, Listed, Protocol};
+use base::controller::{Actions, CellEntry, Change, Listed, Protocol};
 use std::marker::Model;
 
 /// What the directory's controller does in a cell, in order.
 pub type DirectoryActions = Actions<DirectoryAction>;
 
 /// One cell of the directory's table: what the controller does in a state on an event.
-pub type DirectoryEntry = Entry<DirectoryState, DirectoryAction>;
+pub type DirectoryEntry = CellEntry<DirectoryState, DirectoryAction>;
 
 /// An entry that one cell of the directory's table is to have.
 pub type DirectoryChange = Change<DirectoryState, DirectoryEvent, DirectoryAction>;
@@ -30,14 +30,14 @@ pub struct DirectoryTable {
 }
 
 impl Model for DirectoryTable {
-    ghost use Rattle.directory_table.specs.Keeping.{IsTable};
-    ghost use Rattle.directory_table.specs.Table.{Table};
+    ghost use Rattle.directory_table.specs.Keeping.{IsDirectoryTable};
+    ghost use Rattle.directory_table.specs.Table.{DirectoryTableView};
 
-    ghost Value = { Table };
+    ghost Value = { DirectoryTableView };
 
     ghost view = { λ t. record { protocol = t.protocol; cells = t.cells } };
 
-    ghost invariant = { λ t. IsTable t.protocol t.cells };
+    ghost invariant = { λ t. IsDirectoryTable t.protocol t.cells };
 
     ghost inverse = { λ t. record { protocol = t.protocol; cells = t.cells } };
 }
@@ -59,7 +59,7 @@ pub fn knows_entry(protocol: Protocol, entry: &DirectoryEntry) -> bool
     ensures { result ≡ has_entry protocol entry.now }
 {
     match entry {
-        Entry::Act { actions, .. } => knows_actions(protocol, actions.as_slice()),
+        CellEntry::Act { actions, .. } => knows_actions(protocol, actions.as_slice()),
         _ => true,
     }
 }
@@ -96,7 +96,7 @@ impl DirectoryTable {
     pub fn entry(&self, state: DirectoryState, event: DirectoryEvent) -> DirectoryEntry
         ensures entry { result ≡ cell self.now.cells state event }
         ensures whole { IsWhole self.now.cells }
-        ensures table { IsTable self.now.protocol self.now.cells }
+        ensures table { IsDirectoryTable self.now.protocol self.now.cells }
     {
         let row = &self.cells[state.number()];
         row[event.number()]

@@ -1,5 +1,5 @@
 use crate::explanation::Explanation;
-use crate::steps::{Due, tell_line, tell_wrong, without_return, wrong_in};
+use crate::steps::{DueWord, tell_line, tell_wrong, without_return, wrong_in};
 use base::{Shape, Step};
 use std::alloc::Global;
 
@@ -19,7 +19,7 @@ pub fn explain_ask(alloc: Global, shape: Shape, most: usize, line: &[u8]) -> Exp
 /// Tells why a line isn't an ask of the shape, but for its end.
 fn tell_step(told: &mut Explanation, shape: Shape, line: &[u8]) {
     match Step::read(line) {
-        None => tell_wrong(told, wrong_in(line, Due::Step, true)),
+        None => tell_wrong(told, wrong_in(line, DueWord::Step, true)),
         Some(Step::Ask { cache, block, .. }) => {
             tell_absent(told, "cache", cache.0, shape.caches());
             tell_absent(told, "block", block.0, shape.blocks());

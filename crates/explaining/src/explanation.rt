@@ -1,7 +1,7 @@
 use base::NoMemory;
+use sheet::Sheet;
 use std::alloc::Global;
 use std::fmt::Display;
-use story::Sheet;
 
 /// What stands in front of each line.
 const FRONT: &str = "  ";

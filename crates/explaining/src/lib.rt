@@ -1,21 +1,29 @@
-//! What is wrong with a line that is refused, or with a recording at one of its lines: in lines for whoever wrote it. The
-//! readers decide what is refused; this looks at the text once more, in the order in which they test it. And what an
-//! explanation is made of, whatever it is about.
+//! What is wrong with a text that is refused, a line, tables or a scenario, or with a recording at one of its lines: in
+//! lines for whoever wrote it. The readers decide what is refused; this looks at the text once more, in the order in
+//! which they test it. And what an explanation is made of, whatever it is about.
 #![tactic(auto)]
 
 mod asking;
+mod cells;
 mod explanation;
+mod json;
+mod keys;
 mod lines;
 mod nearest;
+mod overrides;
+mod places;
 mod quoting;
 mod recorded;
 mod recordings;
+mod scenarios;
 mod steps;
+mod trees;
 
 pub use asking::explain_ask;
 pub use explanation::Explanation;
 pub use lines::line_of;
-pub use nearest::{tell_names, tell_words};
-pub use quoting::{MOST_QUOTED, Quoted};
+pub use overrides::explain_tables;
+pub use quoting::Quoted;
 pub use recordings::explain_recording;
+pub use scenarios::explain_scenario;
 pub use steps::explain_step;

@@ -3,7 +3,7 @@
 use crate::explanation::Explanation;
 use crate::nearest::{tell_names, tell_words};
 use crate::quoting::Quoted;
-use crate::steps::{Due, tell_wrong, wrong_in};
+use crate::steps::{DueWord, tell_wrong, wrong_in};
 use base::controller::{Listed, MOST_ACTIONS, Protocol, Side, named_of};
 use base::text::{cut, number_of, small_number_of};
 use base::{Outcome, Step};
@@ -176,7 +176,7 @@ pub fn tell_entry(told: &mut Explanation, seats: u32, line: &[u8]) {
         return;
     };
     match Step::read_front(entry) {
-        None => match wrong_in(entry, Due::Step, false) {
+        None => match wrong_in(entry, DueWord::Step, false) {
             None => told.line("behind the step \"= OUTCOME\" is due"),
             wrong => tell_wrong(told, wrong),
         },
@@ -214,7 +214,7 @@ fn tell_outcome(told: &mut Explanation, outcome: &[u8]) {
         return;
     }
     told.line(format_args!("the outcome is {}", Quoted(outcome)));
-    tell_wrong(told, wrong_in(outcome, Due::Outcome, true));
+    tell_wrong(told, wrong_in(outcome, DueWord::Outcome, true));
     told.line(
         "an outcome is: sent | moved | load C V | store C V | held | absent | idle | blank | broken",
     );

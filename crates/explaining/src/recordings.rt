@@ -11,7 +11,7 @@ use std::alloc::Global;
 
 /// What was due at a line of a recording. Cells and entries have their numbers, counted from 0.
 #[derive(Clone, Copy, PartialEq, Eq)]
-enum Due {
+enum DueLine {
     Header,
     Protocol,
     Shape,
@@ -63,36 +63,36 @@ impl Head {
     }
 
     /// What was due at a line, where all lines before were as was due.
-    fn due_at(&self, line: usize) -> Due {
+    fn due_at(&self, line: usize) -> DueLine {
         if line <= self.cells_at {
             return self.due_in_front(line);
         }
         if line < self.entries_at {
-            return Due::Cell(line.saturating_sub(self.cells_at + 1));
+            return DueLine::Cell(line.saturating_sub(self.cells_at + 1));
         }
         if line == self.entries_at {
-            return Due::EntryCount;
+            return DueLine::EntryCount;
         }
         let entry = line.saturating_sub(self.entries_at + 1);
         let entries = self.entries as usize;
         if entry < entries {
-            return Due::Entry(entry);
+            return DueLine::Entry(entry);
         }
         if entry == entries {
-            Due::End
+            DueLine::End
         } else {
-            Due::Nothing
+            DueLine::Nothing
         }
     }
 
-    fn due_in_front(&self, line: usize) -> Due {
+    fn due_in_front(&self, line: usize) -> DueLine {
         match (self.is_second, line) {
-            (_, 0 | 1) => Due::Header,
-            (true, 2) => Due::Protocol,
-            (true, 3) | (false, 2) => Due::Shape,
-            (true, 4) => Due::Seats,
-            (true, 5) | (false, 3) => Due::Opening,
-            _ => Due::CellCount,
+            (_, 0 | 1) => DueLine::Header,
+            (true, 2) => DueLine::Protocol,
+            (true, 3) | (false, 2) => DueLine::Shape,
+            (true, 4) => DueLine::Seats,
+            (true, 5) | (false, 3) => DueLine::Opening,
+            _ => DueLine::CellCount,
         }
     }
 
@@ -149,41 +149,41 @@ pub fn explain_recording(alloc: Global, bytes: &[u8], number: u64, kind: ReadKin
 }
 
 /// Tells what is due at a line.
-fn tell_due(told: &mut Explanation, head: &Head, due: Due) {
+fn tell_due(told: &mut Explanation, head: &Head, due: DueLine) {
     let (caches, blocks, _) = head.limits();
     match due {
-        Due::Header => told.line("due is: msi-recording 2 | msi-recording 1"),
-        Due::Protocol => told.line("due is: protocol msi | protocol msi+e"),
-        Due::Shape => told.line(format_args!(
+        DueLine::Header => told.line("due is: msi-recording 2 | msi-recording 1"),
+        DueLine::Protocol => told.line("due is: protocol msi | protocol msi+e"),
+        DueLine::Shape => told.line(format_args!(
             "due is: shape CACHES BLOCKS, with 1 to {caches} caches and 1 to {blocks} blocks"
         )),
-        Due::Seats => told.line(format_args!("due is: seats N, with 0 to {MOST_SEATS} seats")),
-        Due::Opening => told.line(format_args!(
+        DueLine::Seats => told.line(format_args!("due is: seats N, with 0 to {MOST_SEATS} seats")),
+        DueLine::Opening => told.line(format_args!(
             "due is: opening and {} values, one for each block",
             head.blocks
         )),
-        Due::CellCount => told.line(format_args!(
+        DueLine::CellCount => told.line(format_args!(
             "due is: cells N, with 0 to {} cells",
             most_cells(head)
         )),
-        Due::Cell(number) => told.line(format_args!(
+        DueLine::Cell(number) => told.line(format_args!(
             "due is: cell {number} of {}, counted from 0, in which the tables differ from the own of {}",
             head.cells,
             head.protocol.name()
         )),
-        Due::EntryCount => told.line(format_args!(
+        DueLine::EntryCount => told.line(format_args!(
             "due is: entries N, with 0 to {MOST_ENTRIES} entries"
         )),
-        Due::Entry(number) => told.line(format_args!(
+        DueLine::Entry(number) => told.line(format_args!(
             "due is: entry {number} of {}, counted from 0: {}",
             head.entries,
             entry_form(head.seats)
         )),
-        Due::End => told.line(format_args!(
+        DueLine::End => told.line(format_args!(
             "due is: end, as the entries that line {} tells are all there",
             head.entries_at
         )),
-        Due::Nothing => told.line("due is: nothing, as the line before is the last one"),
+        DueLine::Nothing => told.line("due is: nothing, as the line before is the last one"),
     }
 }
 
@@ -203,9 +203,13 @@ fn most_cells(head: &Head) -> u32 {
 }
 
 /// Tells what the kind of a refusal says, beside what was due.
-fn tell_kind(told: &mut Explanation, head: &Head, due: Due, kind: ReadKind, line: &[u8]) {
+fn tell_kind(told: &mut Explanation, head: &Head, due: DueLine, kind: ReadKind, line: &[u8]) {
     let (_, _, bytes) = head.limits();
-    let most = if due == Due::Header { 90_000 } else { bytes };
+    let most = if due == DueLine::Header {
+        90_000
+    } else {
+        bytes
+    };
     match kind {
         ReadKind::Truncated => told.line("the input ends here, without the line's LF"),
         ReadKind::OverLimit if line.len() > most => {
@@ -219,10 +223,10 @@ fn tell_kind(told: &mut Explanation, head: &Head, due: Due, kind: ReadKind, line
 }
 
 /// Tells how many entries are told, and how many there are.
-fn tell_count(told: &mut Explanation, head: &Head, due: Due) {
+fn tell_count(told: &mut Explanation, head: &Head, due: DueLine) {
     let (at, entries) = (head.entries_at, head.entries);
     match due {
-        Due::Entry(number) => told.line(format_args!(
+        DueLine::Entry(number) => told.line(format_args!(
             "entries that line {at} tells: {entries}, entries in front of the end: {number}"
         )),
         _ => told.line(format_args!(
@@ -232,14 +236,14 @@ fn tell_count(told: &mut Explanation, head: &Head, due: Due) {
 }
 
 /// Tells what is wrong with a line itself.
-fn tell_wrong(told: &mut Explanation, head: &Head, due: Due, line: &[u8], before: &[u8]) {
+fn tell_wrong(told: &mut Explanation, head: &Head, due: DueLine, line: &[u8], before: &[u8]) {
     match due {
-        Due::Opening => tell_opening(told, head.blocks, line),
-        Due::Cell(number) => {
+        DueLine::Opening => tell_opening(told, head.blocks, line),
+        DueLine::Cell(number) => {
             let before = if number == 0 { None } else { Some(before) };
             tell_cell(told, head.protocol, line, before);
         }
-        Due::Entry(_) => tell_entry(told, head.seats, line),
+        DueLine::Entry(_) => tell_entry(told, head.seats, line),
         _ => {}
     }
 }

@@ -8,7 +8,7 @@ use std::alloc::Global;
 
 /// What is due as a word of a line.
 #[derive(Clone, Copy, PartialEq, Eq)]
-pub enum Due {
+pub enum DueWord {
     Step,
     Ask,
     Outcome,
@@ -27,35 +27,35 @@ const OUTCOMES: [&str; 9] = [
     "sent", "moved", "load", "store", "held", "absent", "idle", "blank", "broken",
 ];
 
-impl Due {
+impl DueWord {
     fn text(self) -> &'static str {
         match self {
-            Due::Step => "the first word of a step",
-            Due::Ask => "the name of an ask",
-            Due::Outcome => "the first word of an outcome",
-            Due::Cache => "the number of a cache below 2^32",
-            Due::Block => "the number of a block below 2^32",
-            Due::Index => "a place below 2^64",
-            Due::Value => "a value below 2^64",
-            Due::Nothing => "nothing",
+            DueWord::Step => "the first word of a step",
+            DueWord::Ask => "the name of an ask",
+            DueWord::Outcome => "the first word of an outcome",
+            DueWord::Cache => "the number of a cache below 2^32",
+            DueWord::Block => "the number of a block below 2^32",
+            DueWord::Index => "a place below 2^64",
+            DueWord::Value => "a value below 2^64",
+            DueWord::Nothing => "nothing",
         }
     }
 
     fn words(self) -> &'static [&'static str] {
         match self {
-            Due::Step => &STEPS,
-            Due::Ask => &ASKS,
-            Due::Outcome => &OUTCOMES,
+            DueWord::Step => &STEPS,
+            DueWord::Ask => &ASKS,
+            DueWord::Outcome => &OUTCOMES,
             _ => &[],
         }
     }
 
     fn fits(self, word: &[u8]) -> bool {
         match self {
-            Due::Cache | Due::Block => small_number_of(word).is_some(),
-            Due::Index | Due::Value => number_of(word).is_some(),
-            Due::Nothing => false,
-            Due::Step | Due::Ask | Due::Outcome => is_among(word, self.words()),
+            DueWord::Cache | DueWord::Block => small_number_of(word).is_some(),
+            DueWord::Index | DueWord::Value => number_of(word).is_some(),
+            DueWord::Nothing => false,
+            DueWord::Step | DueWord::Ask | DueWord::Outcome => is_among(word, self.words()),
         }
     }
 }
@@ -70,13 +70,13 @@ fn is_among(word: &[u8], words: &[&'static str]) -> bool {
 }
 
 /// The words that are due behind a word.
-fn due_behind(kind: Due, word: &[u8]) -> &'static [Due] {
+fn due_behind(kind: DueWord, word: &[u8]) -> &'static [DueWord] {
     match (kind, word) {
-        (Due::Step, b"ask") => &[Due::Cache, Due::Block, Due::Ask],
-        (Due::Step, b"forward") => &[Due::Block, Due::Cache],
-        (Due::Step, _) => &[Due::Block, Due::Index],
-        (Due::Ask, b"store") => &[Due::Value],
-        (Due::Outcome, b"load" | b"store") => &[Due::Cache, Due::Value],
+        (DueWord::Step, b"ask") => &[DueWord::Cache, DueWord::Block, DueWord::Ask],
+        (DueWord::Step, b"forward") => &[DueWord::Block, DueWord::Cache],
+        (DueWord::Step, _) => &[DueWord::Block, DueWord::Index],
+        (DueWord::Ask, b"store") => &[DueWord::Value],
+        (DueWord::Outcome, b"load" | b"store") => &[DueWord::Cache, DueWord::Value],
         _ => &[],
     }
 }
@@ -86,7 +86,7 @@ fn due_behind(kind: Due, word: &[u8]) -> &'static [Due] {
 pub struct Wrong<'a> {
     number: usize,
     word: Option<&'a [u8]>,
-    due: Due,
+    due: DueWord,
 }
 
 /// A line, as far as it was looked at.
@@ -100,7 +100,7 @@ struct Walk<'a> {
 
 impl<'a> Walk<'a> {
     /// Takes the next word, if all before were as is due, and answers it.
-    fn take(&mut self, due: Due) -> &'a [u8] {
+    fn take(&mut self, due: DueWord) -> &'a [u8] {
         if self.wrong.is_some() {
             return &[];
         }
@@ -117,7 +117,7 @@ impl<'a> Walk<'a> {
         word
     }
 
-    fn take_all(&mut self, dues: &[Due]) -> &'a [u8] {
+    fn take_all(&mut self, dues: &[DueWord]) -> &'a [u8] {
         let mut last: &'a [u8] = &[];
         for due in dues {
             last = self.take(*due);
@@ -125,7 +125,7 @@ impl<'a> Walk<'a> {
         last
     }
 
-    fn note(&mut self, word: Option<&'a [u8]>, due: Due) {
+    fn note(&mut self, word: Option<&'a [u8]>, due: DueWord) {
         self.wrong = Some(Wrong {
             number: self.number,
             word,
@@ -136,7 +136,7 @@ impl<'a> Walk<'a> {
 
 /// What is wrong with a line that ought to be a step, or an outcome. `None` where nothing is. Behind a step more may stand,
 /// where it isn't the whole line.
-pub fn wrong_in(line: &[u8], kind: Due, is_whole: bool) -> Option<Wrong<'_>> {
+pub fn wrong_in(line: &[u8], kind: DueWord, is_whole: bool) -> Option<Wrong<'_>> {
     let mut walk = Walk {
         number: 0,
         rest: Some(line),
@@ -145,11 +145,11 @@ pub fn wrong_in(line: &[u8], kind: Due, is_whole: bool) -> Option<Wrong<'_>> {
     let first = walk.take(kind);
     let dues = due_behind(kind, first);
     let last = walk.take_all(dues);
-    if kind == Due::Step {
-        walk.take_all(due_behind(Due::Ask, last));
+    if kind == DueWord::Step {
+        walk.take_all(due_behind(DueWord::Ask, last));
     }
     if is_whole && walk.rest.is_some() {
-        walk.take(Due::Nothing);
+        walk.take(DueWord::Nothing);
     }
     walk.wrong
 }
@@ -179,7 +179,10 @@ pub fn tell_wrong(told: &mut Explanation, wrong: Option<Wrong<'_>>) {
 pub fn explain_step(alloc: Global, most: usize, line: &[u8]) -> Explanation {
     let mut told = Explanation::new(alloc);
     if tell_line(&mut told, most, line) {
-        tell_wrong(&mut told, wrong_in(without_return(line), Due::Step, true));
+        tell_wrong(
+            &mut told,
+            wrong_in(without_return(line), DueWord::Step, true),
+        );
     }
     told.line(
         "a step is: ask C B load | ask C B store V | ask C B replace | request B I | forward B C | response B I",

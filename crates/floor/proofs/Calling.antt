@@ -4,9 +4,9 @@ use Rattle.std.specs.Result.{IsErrOf}
 use Rattle.base.specs.declared.step.Step.{Step}
 use Rattle.machine.specs.Machine.{next}
 use Rattle.record_lines.specs.declared.entry.Entry.{Entry}
-use Rattle.hall.specs.FloorId.{FloorId}
-use Rattle.hall.specs.Turning.{Follows, HallView, SeatView, Turns, is_its, state_of}
-use Rattle.hall.specs.Calling.{IsMoment, WasIts}
+use Rattle.floor.specs.FloorId.{FloorId}
+use Rattle.floor.specs.Turning.{Follows, HallView, SeatView, Turns, is_its, state_of}
+use Rattle.floor.specs.SeatCalling.{IsMoment, WasIts}
 
 -- a step that is refused where it isn't the seat's, and isn't refused, is the seat's
 its : {T E : Type 0} (own : Bool) (x : T) (e : E) → (own ≡ false → IsErrOf (Ok x) e) → own ≡ true

@@ -1,3 +1,11 @@
 pub mod Owned
 pub mod Calling
 pub mod Crewing
+pub mod Lists
+pub mod Ties
+pub mod Entering
+pub mod Sharing
+pub mod Recounting
+pub mod Tallying
+pub mod Drawing
+pub mod SeatCalling

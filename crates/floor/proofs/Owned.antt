@@ -3,10 +3,10 @@ use Rattle.std.proofs.Common.{◌≡◌, ℕ, zero, suc, ◌+◌, cond, eqb, Lis
 use Rattle.std.proofs.lemmas.Bool.Decides.{nat_tests}
 use Rattle.std.proofs.lemmas.Option.{slice_get_within, get_or_from_slice_get, some_pair_parts}
 use Rattle.record_lines.specs.declared.entry.Entry.{Entry}
-use Rattle.hall.specs.FloorId.{FloorId}
-use Rattle.hall.specs.Histories.{history, owned_from}
-use Rattle.hall.specs.Turning.{SeatView}
-use Rattle.hall.specs.Closing.{HaveOwners, AllThere, AllStand, AllReceived, AreHistories}
+use Rattle.floor.specs.FloorId.{FloorId}
+use Rattle.floor.specs.Histories.{history, owned_from}
+use Rattle.floor.specs.Turning.{SeatView}
+use Rattle.floor.specs.Closing.{HaveOwners, AllThere, AllStand, AllReceived, AreHistories}
 
 own_is : {X : Type 0} (a : ℕ) (x y : X) → cond (eqb a a) x y ≡ x
 own_is a x y = grind (arith, nat_tests)

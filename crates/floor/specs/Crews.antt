@@ -1,7 +1,7 @@
 -- What a crew gives back.
 use Rattle.std.specs.Prelude.{◌≡◌, ℕ, List, [], ◌∷◌, ◌++◌}
 use Rattle.record_lines.specs.declared.entry.Entry.{Entry}
-use Rattle.hall.specs.Turning.{SeatView}
+use Rattle.floor.specs.Turning.{SeatView}
 
 -- the same seat later on, with its old receipts first
 abbrev pub GoesOn : SeatView → SeatView → Type 0

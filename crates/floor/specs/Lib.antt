@@ -1,8 +1,8 @@
-pub use Rattle.hall.specs.Belonging
-pub use Rattle.hall.specs.Histories
-pub use Rattle.hall.specs.FloorId
-pub use Rattle.hall.specs.Turning
-pub use Rattle.hall.specs.Closing
-pub use Rattle.hall.specs.Calling
 pub mod Crews
 pub mod inner
+pub mod Belonging
+pub mod Histories
+pub mod FloorId
+pub mod Turning
+pub mod Closing
+pub mod SeatCalling

@@ -5,8 +5,10 @@ ghost use Rattle.floor.specs.Crews.{ComeBack, GoesOn};
 ghost use Rattle.floor.specs.inner.Wishes.{Meets};
 
 use crate::floors::Floor;
+use crate::grounds::Naming;
+use crate::halls::TurnFault;
+use crate::seats::{Receipt, Seat};
 use base::{NoMemory, Step};
-use hall::{Naming, Receipt, Seat, TurnFault};
 use std::alloc::Global;
 use std::marker::Model;
 use std::snapshot::Snapshot;
@@ -115,12 +117,12 @@ impl<F: Naming> Promise<(Seat<F>, Option<TurnFault>)> for Keeps<F> {
 /// A member at work. To a contract it is the seat as it was handed in.
 #[derive(Drop)]
 struct Running<F: Naming> {
-    way: Way<F>,
+    way: Launch<F>,
     before: Snapshot<Seat<F>>,
 }
 
 #[derive(Drop)]
-enum Way<F: Naming> {
+enum Launch<F: Naming> {
     /// A thread was started.
     Started(PromisedHandle<(Seat<F>, Option<TurnFault>), Keeps<F>>),
     /// None could be started, and the seat has ended.
@@ -128,7 +130,7 @@ enum Way<F: Naming> {
 }
 
 impl<F: Naming> Model for Running<F> {
-    ghost use Rattle.hall.specs.Turning.{SeatView};
+    ghost use Rattle.floor.specs.Turning.{SeatView};
     ghost use Rattle.floor.specs.inner.Ways.{IsWayOf};
 
     ghost Value = { SeatView };
@@ -172,14 +174,14 @@ fn start<
     };
     match scope.spawn_with(promise, job) {
         Ok(handle) => Running {
-            way: Way::Started(handle),
+            way: Launch::Started(handle),
             before,
         },
         Err(e) => {
             refused.store(true, Ordering::SeqCst);
             let (seat, fault) = (e.value)();
             Running {
-                way: Way::Ended(seat, fault),
+                way: Launch::Ended(seat, fault),
                 before,
             }
         }
@@ -219,8 +221,8 @@ fn finish<F: Naming, R: Threads>(rt: &R, running: Running<F>) -> (Seat<F>, Optio
 {
     let Running { way, before: _ } = running;
     match way {
-        Way::Started(handle) => handle.join(rt),
-        Way::Ended(seat, fault) => (seat, fault),
+        Launch::Started(handle) => handle.join(rt),
+        Launch::Ended(seat, fault) => (seat, fault),
     }
 }
 

@@ -2,10 +2,12 @@
 
 ghost use Rattle.std.specs.Prelude.{◌≡◌};
 
+use crate::closing::{CloseFault, Closed, all_there};
+use crate::grounds::{Ground, Naming};
+use crate::halls::{Hall, TurnFault};
+use crate::opening::open_hall;
+use crate::seats::{Receipt, Seat};
 use base::Step;
-use hall::{
-    CloseFault, Closed, Ground, Hall, Naming, Receipt, Seat, TurnFault, all_there, open_hall,
-};
 use record::MOST_ENTRIES;
 use std::alloc::Global;
 use std::sync::{Mutex, Wait};
@@ -45,10 +47,10 @@ impl<F: Naming> Floor<F> {
     ghost use Rattle.std.specs.List.{range_with_len};
     ghost use Rattle.machine.specs.Restraint.{AreRestrained};
     ghost use Rattle.record.specs.View.{IsLegal};
-    ghost use Rattle.hall.specs.FloorId.{floor_id};
-    ghost use Rattle.hall.specs.Turning.{IsFirstOf, new_seat, recorded_at, with_receipt};
-    ghost use Rattle.hall.specs.Calling.{HadNone, WasDrawn, WasForeign, WasFull, WasIts};
-    ghost use Rattle.hall.specs.Closing.{AllReceived, AllStand, AllThere, AreHistories, HaveOwners, IsMissing};
+    ghost use Rattle.floor.specs.FloorId.{floor_id};
+    ghost use Rattle.floor.specs.Turning.{IsFirstOf, new_seat, recorded_at, with_receipt};
+    ghost use Rattle.floor.specs.SeatCalling.{HadNone, WasDrawn, WasForeign, WasFull, WasIts};
+    ghost use Rattle.floor.specs.Closing.{AllReceived, AllStand, AllThere, AreHistories, HaveOwners, IsMissing};
 
     /// Opens a world under a setup, with so many seats round it and room for so many entries. The seats come in the order of
     /// their numbers, without receipts.

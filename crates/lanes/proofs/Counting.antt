@@ -11,7 +11,7 @@ use Rattle.base.specs.declared.ids.CacheId.{CacheId}
 use Rattle.base.specs.declared.ids.Place.{Place}
 use Rattle.base.specs.declared.ids.Place.TheVariants.{Cache}
 use Rattle.base.specs.declared.step.CoreAsk.{CoreAsk}
-use Rattle.both_tables.specs.Tables.{Tables}
+use Rattle.tables.specs.Tables.{Tables}
 use Rattle.blocks.specs.declared.block.asking.HeldAsks.{HeldAsks}
 use Rattle.machine.specs.Coherence.{line_at}
 use Rattle.machine.specs.Machine.{State}
@@ -19,10 +19,10 @@ use Rattle.cores.specs.Cores.{Core, is_free}
 use Rattle.scenario.specs.Tree.{Seq, Nil}
 use Rattle.scenario.specs.Taking as taking
 use Rattle.schedule.specs.Choices.{can_be_put, offers_from}
-use Rattle.lanes.specs.Lanes.{AreAsFree, AreReady, IsKept, IsLevel, IsListed, Laned, lanes_of, listed_at, offers_at, puttable}
+use Rattle.lanes.specs.Lanes.{AreAsFree, AreReady, AreLanesKept, IsLevel, IsListed, Laned, lanes_of, listed_at, offers_at, puttable}
 use Rattle.schedule.specs.Listed.{IsMarked, Listed, is_unheld, nothing_listed}
 use Rattle.schedule.specs.Marks.{AreHeldAt, all_marked, is_at, mark_by, marked_by, marks_by, offers_by}
-use Rattle.lanes.specs.inner.Changes.{Agree, AgreeBut, AreCountedAt, AreMarked, ChangesCounts, IsCountedAt, IsCountedIf, IsMarkedIn, KeepsOthers}
+use Rattle.lanes.specs.inner.Changes.{Agree, AgreeBut, AreCountedAt, AreMarked, ChangesCounts, IsCountedAt, IsCountedIf, IsMarkedIn, KeepsOtherLanes}
 use Rattle.lanes.specs.inner.Changes.{ChangesMarks}
 use Rattle.lanes.specs.inner.Changes.{WereReady, count_by, counted_at, marked_in}
 use Rattle.schedule.specs.declared.choosing.Choice.TheVariants.{Offer}
@@ -287,7 +287,7 @@ not-among which n lane all each there =
     each there.0 (let h = there.1 in omega (arith, h, all)) (get_or_default which there.0 0 lane there.1 ∙ there.2)
 
 -- nothing but marks has changed
-pub kept-marks : (old new : Laned) → ChangesMarks old new → IsKept old → IsKept new
+pub kept-marks : (old new : Laned) → ChangesMarks old new → AreLanesKept old → AreLanesKept new
 kept-marks old new m kept =
     let level = kept.level in
     record {
@@ -311,10 +311,10 @@ kept-marks old new m kept =
     }
 
 -- nothing but counts has changed
-pub kept-counts : (old new : Laned) → ChangesCounts old new → IsKept old → IsKept new
+pub kept-counts : (old new : Laned) → ChangesCounts old new → AreLanesKept old → AreLanesKept new
 kept-counts old new m kept =
     let level = kept.level in
-    subst IsKept (sym m.same) (record {
+    subst AreLanesKept (sym m.same) (record {
       level = record { listed = level.listed; lengths = level.lengths; ready = m.long ∙ level.ready; few = level.few; rows = level.rows };
       listed = λ lane low. let h = kept.listed lane low in record { offered = h.offered; count = h.count; short = h.short; reached = h.reached };
     })
@@ -342,7 +342,7 @@ marks-only held core block which done old new trees stocks lengths ready reached
 
 -- where the lanes of a core were marked again, all marks are right
 pub all-marked : (tables : Tables) (before now : State) (cb cn : List Core) (but done : Option ℕ) (core : CacheId) (block : BlockId) (held : HeldAsks)
-    (old new : Laned) → IsKept old → ChangesMarks old new → before.broken ≡ false → now.broken ≡ false → AreHeldAt tables now core block held →
+    (old new : Laned) → AreLanesKept old → ChangesMarks old new → before.broken ≡ false → now.broken ≡ false → AreHeldAt tables now core block held →
     IfSome done (λ lane. IsMarked tables now (listed_at old lane)) → WereReady tables before cb now but old →
     AgreeBut (Some (Cache core)) block.0 before now cb cn →
     ((lane : ℕ) → lane < length old.trees → IsMarkedIn held core block (lanes_of old.reached core.0) done (listed_at old lane) (listed_at new lane) lane) →
@@ -429,7 +429,7 @@ Stays tables before now cb cn but at l = (lane : ℕ) → lane < length l.trees 
     puttable tables before cb (offers_at l lane) ≡ puttable tables now cn (offers_at l lane)
 
 -- so it is where the lanes were counted that have an ask of the core
-pub stays-agreed : (tables : Tables) (before now : State) (cb cn : List Core) (but : Option ℕ) (at : Option Place) (block : ℕ) (l : Laned) → IsKept l →
+pub stays-agreed : (tables : Tables) (before now : State) (cb cn : List Core) (but : Option ℕ) (at : Option Place) (block : ℕ) (l : Laned) → AreLanesKept l →
     before.broken ≡ false → now.broken ≡ false → AgreeBut at block before now cb cn → Stays tables before now cb cn but at l
 stays-agreed tables before now cb cn but at block l kept sb sn agree lane low ne apart =
     same-count tables before now cb cn 0 (offers_at l lane) sb sn
@@ -527,7 +527,7 @@ pub record Opens (tables : Tables) (s : State) (cores : List Core) (lane : ℕ) 
   pub level : IsLevel mid
   pub there : lane < length mid.trees
   pub here : IsListed mid lane
-  pub others : KeepsOthers lane old mid
+  pub others : KeepsOtherLanes lane old mid
   pub marks : marked ≡ marked_in tables s lane mid
   pub counts : new ≡ counted_at cores lane marked
 

@@ -9,7 +9,7 @@ use Rattle.std.specs.Option.{option_map}
 use Rattle.base.specs.declared.step.CoreAsk.{CoreAsk}
 use Rattle.rows.specs.Counts.{Finds}
 use Rattle.rows.proofs.Bridge.{get_front, get_behind_by}
-use Rattle.both_tables.specs.Tables.{Tables}
+use Rattle.tables.specs.Tables.{Tables}
 use Rattle.machine.specs.Machine.{State}
 use Rattle.world.specs.Enabled.{enabled_steps}
 use Rattle.cores.specs.Cores.{Core}
@@ -18,7 +18,7 @@ use Rattle.scenario.specs.Taking.{offers}
 use Rattle.schedule.specs.Choices.{choices_of, offers_from}
 use Rattle.lanes.specs.declared.lanes.Lane.{Lane}
 use Rattle.cursors.specs.Cursors.{remaining}
-use Rattle.lanes.specs.Lanes.{AreReady, IsKept, Laned, listed_at, offers_at, puttable, tree_of_lane, whole}
+use Rattle.lanes.specs.Lanes.{AreReady, AreLanesKept, Laned, listed_at, offers_at, puttable, tree_of_lane, whole}
 use Rattle.schedule.specs.Listed.{nothing_listed}
 use Rattle.schedule.specs.Marks.{offers_by}
 use Rattle.schedule.specs.declared.choosing.Choice.TheVariants.{Deliver}
@@ -27,7 +27,7 @@ use Rattle.lanes.proofs.Offered.{CountsOf, all-counted, all-found}
 use Rattle.lanes.proofs.Rows.{lengths_of, sum-lengths}
 
 -- the lengths are those of what the trees offer
-pub lengths-are : (l : Laned) → IsKept l → l.lengths ≡ lengths_of l.trees
+pub lengths-are : (l : Laned) → AreLanesKept l → l.lengths ≡ lengths_of l.trees
 lengths-are l kept =
     let many = kept.level.lengths in
     let same = length-map l.trees (λ t. length (offers t)) in
@@ -36,10 +36,10 @@ lengths-are l kept =
     let listed = kept.listed i there in
     listed.count ∙ ap length listed.offered ∙ sym (get_or-map (λ t. length (offers t)) l.trees i (Seq Nil) 0 there))
 
-pub all-lengths : (l : Laned) → IsKept l → sum l.lengths ≡ length (offers (whole l))
+pub all-lengths : (l : Laned) → AreLanesKept l → sum l.lengths ≡ length (offers (whole l))
 all-lengths l kept = ap sum (lengths-are l kept) ∙ sum-lengths l.trees
 
-pub counts-are : (tables : Tables) (s : State) (cores : List Core) (l : Laned) → IsKept l → AreReady tables s cores l → s.broken ≡ false →
+pub counts-are : (tables : Tables) (s : State) (cores : List Core) (l : Laned) → AreLanesKept l → AreReady tables s cores l → s.broken ≡ false →
     CountsOf tables s cores l.trees l.ready
 counts-are tables s cores l kept ready sound i low =
     ready.counted sound i low ∙ ap (puttable tables s cores) (kept.listed i low).offered
@@ -50,12 +50,12 @@ pub choices-sound : (tables : Tables) (s : State) (cores : List Core) (t : Tree)
 choices-sound tables s cores t e =
     ap (λ b. if b then [] else (offers_from tables s cores 0 (offers t) ++ map Deliver (enabled_steps tables s))) e
 
-pub offers-count : (tables : Tables) (s : State) (cores : List Core) (l : Laned) → IsKept l → AreReady tables s cores l → s.broken ≡ false →
+pub offers-count : (tables : Tables) (s : State) (cores : List Core) (l : Laned) → AreLanesKept l → AreReady tables s cores l → s.broken ≡ false →
     length (offers_from tables s cores 0 (offers (whole l))) ≡ sum l.ready
 offers-count tables s cores l kept ready sound =
     all-counted tables s cores 0 l.trees l.ready kept.level.ready (counts-are tables s cores l kept ready sound)
 
-pub choices-count : (tables : Tables) (s : State) (cores : List Core) (l : Laned) (offered enabled : ℕ) → IsKept l → AreReady tables s cores l →
+pub choices-count : (tables : Tables) (s : State) (cores : List Core) (l : Laned) (offered enabled : ℕ) → AreLanesKept l → AreReady tables s cores l →
     s.broken ≡ false → offered ≡ sum l.ready → enabled ≡ length (enabled_steps tables s) → offered + enabled ≡ length (choices_of tables s cores (whole l))
 choices-count tables s cores l offered enabled kept ready sound one other =
     let os = offers_from tables s cores 0 (offers (whole l)) in
@@ -70,11 +70,11 @@ found-within [] p r w = absurd (omega (arith, w))
 found-within (n ∷ ns) zero r w = omega arith
 found-within (n ∷ ns) (suc p) r w = let h = found-within ns p r w in omega (arith, h)
 
-pub lane-there : (l : Laned) (k p r : ℕ) → IsKept l → Finds l.ready k p r → p < length l.trees
+pub lane-there : (l : Laned) (k p r : ℕ) → AreLanesKept l → Finds l.ready k p r → p < length l.trees
 lane-there l k p r kept found = let w = found-within l.ready p r found.within in let m = kept.level.ready in omega (arith, w, m)
 
 -- the k-th choice is an offer of the lane that k falls in, or a delivery
-choice-offered : (tables : Tables) (s : State) (cores : List Core) (l : Laned) (k p r : ℕ) → IsKept l → AreReady tables s cores l →
+choice-offered : (tables : Tables) (s : State) (cores : List Core) (l : Laned) (k p r : ℕ) → AreLanesKept l → AreReady tables s cores l →
     s.broken ≡ false → Finds l.ready k p r → k < sum l.ready →
     slice_get (offers_from tables s cores (sum (take p l.lengths)) (offers_at l p)) r ≡ slice_get (choices_of tables s cores (whole l)) k
 choice-offered tables s cores l k p r kept ready sound found low =
@@ -91,7 +91,7 @@ choice-offered tables s cores l k p r kept ready sound found low =
     ∙ ap (λ xs. slice_get (offers_from tables s cores (sum (take p l.lengths)) xs) r) (sym (kept.listed p here).offered))
 
 -- so it is by the marks of that lane
-pub choice-marked : (tables : Tables) (s : State) (cores : List Core) (l : Laned) (k p r : ℕ) → IsKept l → AreReady tables s cores l →
+pub choice-marked : (tables : Tables) (s : State) (cores : List Core) (l : Laned) (k p r : ℕ) → AreLanesKept l → AreReady tables s cores l →
     s.broken ≡ false → Finds l.ready k p r → k < sum l.ready →
     slice_get (offers_by cores (sum (take p l.lengths)) (offers_at l p) (listed_at l p).unheld) r ≡ slice_get (choices_of tables s cores (whole l)) k
 choice-marked tables s cores l k p r kept ready sound found low =
@@ -99,7 +99,7 @@ choice-marked tables s cores l k p r kept ready sound found low =
     (by-marks tables s cores (sum (take p l.lengths)) (offers_at l p) (listed_at l p).unheld (ready.marked sound p (lane-there l k p r kept found)))
     ∙ choice-offered tables s cores l k p r kept ready sound found low
 
-pub choice-delivered : (tables : Tables) (s : State) (cores : List Core) (l : Laned) (k offered : ℕ) → IsKept l → AreReady tables s cores l →
+pub choice-delivered : (tables : Tables) (s : State) (cores : List Core) (l : Laned) (k offered : ℕ) → AreLanesKept l → AreReady tables s cores l →
     s.broken ≡ false → offered ≡ sum l.ready → offered ≤ k →
     option_map Deliver (slice_get (enabled_steps tables s) (k - offered)) ≡ slice_get (choices_of tables s cores (whole l)) k
 choice-delivered tables s cores l k offered kept ready sound all past =
@@ -111,7 +111,7 @@ choice-delivered tables s cores l k offered kept ready sound all past =
     ∙ slice_get-map Deliver (enabled_steps tables s) (k - offered))
 
 -- an offer of a lane by its place there is the one of its number
-pub lane-finds : (l : Laned) (lane place : ℕ) → IsKept l → lane < length l.trees → place < length (offers_at l lane) →
+pub lane-finds : (l : Laned) (lane place : ℕ) → AreLanesKept l → lane < length l.trees → place < length (offers_at l lane) →
     Finds l.lengths (sum (take lane l.lengths) + place) lane place
 lane-finds l lane place kept low offered = record {
   front = refl;

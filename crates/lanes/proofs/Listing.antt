@@ -6,19 +6,19 @@ use Rattle.std.proofs.lemmas.List.{length-map, length-set, map-set, get_or-set_s
 use Rattle.std.proofs.lemmas.Bool.{cases_eq}
 use Rattle.base.specs.declared.step.CoreAsk.{CoreAsk}
 use Rattle.rows.specs.Counts.{Finds}
-use Rattle.both_tables.specs.Tables.{Tables}
+use Rattle.tables.specs.Tables.{Tables}
 use Rattle.machine.specs.Machine.{State}
 use Rattle.scenario.specs.Tree.{Tree, Seq, Both, Nil, trees_of}
-use Rattle.scenario.specs.Alike.{Alike, Seen}
+use Rattle.scenario.specs.Alike.{Alike, SeenTree}
 use Rattle.cursors.specs.Repeats.{Repeats}
 use Rattle.scenario.specs.Taking.{left, offers}
 use Rattle.lanes.specs.declared.lanes.Lane.{Lane}
 use Rattle.lanes.specs.declared.lanes.Lanes.{Lanes}
 use Rattle.cursors.specs.Cursors.{remaining}
-use Rattle.lanes.specs.Lanes.{laned, IsKept, IsLevel, IsListed, Laned, lanes_of, listed_at, offers_at, stocked, tree_of_lane, whole}
+use Rattle.lanes.specs.Lanes.{laned, AreLanesKept, IsLevel, IsListed, Laned, lanes_of, listed_at, offers_at, stocked, tree_of_lane, whole}
 use Rattle.schedule.specs.Listed.{Listed, nothing_listed}
 use Rattle.schedule.specs.Marks.{all_marked}
-use Rattle.lanes.specs.inner.Changes.{KeepsOthers, TakesFrom, marked_in}
+use Rattle.lanes.specs.inner.Changes.{KeepsOtherLanes, TakesFrom, marked_in}
 use Rattle.std.proofs.Math.Seq.{map-set_same}
 use Rattle.lanes.proofs.Kept.{found-within, lane-listed, lane-tree, lengths-are}
 use Rattle.lanes.proofs.Rows.{lengths_of, taken-there}
@@ -50,7 +50,7 @@ relisted lane made old new r level low =
       reached = λ at ask e. r.reached at ask (ap (λ xs. slice_get xs at) (sym here) ∙ e);
     }
 
-pub others-kept : (lane : ℕ) (made : Listed) (old new : Laned) → Relists lane made old new → KeepsOthers lane old new
+pub others-kept : (lane : ℕ) (made : Listed) (old new : Laned) → Relists lane made old new → KeepsOtherLanes lane old new
 others-kept lane made old new r =
     let whole : (other : ℕ) → other ≢ lane → listed_at new other ≡ listed_at old other =
     λ other ne. ap (λ xs. get_or xs other nothing_listed) r.written ∙ get_or-set_other old.listed lane other made nothing_listed ne in
@@ -71,7 +71,7 @@ others-kept lane made old new r =
 -- ---- taking an offer
 
 -- the offer that is found is one of its lane's
-pub found-offered : (lane offer rest : ℕ) (old : Laned) → IsKept old → Finds old.lengths offer lane rest → rest < length (offers (tree_of_lane old lane))
+pub found-offered : (lane offer rest : ℕ) (old : Laned) → AreLanesKept old → Finds old.lengths offer lane rest → rest < length (offers (tree_of_lane old lane))
 found-offered lane offer rest old kept found =
     let low : lane < length old.trees = (let h = found-within old.lengths lane rest found.within in let m = kept.level.lengths in omega (arith, h, m)) in
     let here = kept.listed lane low in
@@ -99,8 +99,8 @@ listed-still lane t old mid s other ne h =
           (h.reached at ask (ap (λ xs. slice_get xs at) (sym same) ∙ e));
     }
 
-pub takes-from : (lane offer rest : ℕ) (t : Tree) (old mid new : Laned) → IsKept old → Finds old.lengths offer lane rest →
-    Alike t (left (tree_of_lane old lane) rest) → Steps lane t old mid → new.trees ≡ mid.trees → IsLevel new → IsListed new lane → KeepsOthers lane mid new →
+pub takes-from : (lane offer rest : ℕ) (t : Tree) (old mid new : Laned) → AreLanesKept old → Finds old.lengths offer lane rest →
+    Alike t (left (tree_of_lane old lane) rest) → Steps lane t old mid → new.trees ≡ mid.trees → IsLevel new → IsListed new lane → KeepsOtherLanes lane mid new →
     TakesFrom lane offer old new
 takes-from lane offer rest t old mid new kept found alike steps trees level listed others =
     let finds : Finds (lengths_of old.trees) offer lane rest = subst (λ ns. Finds ns offer lane rest) (lengths-are old kept) found in
@@ -127,12 +127,12 @@ takes-from lane offer rest t old mid new kept found alike steps trees level list
       };
     }
 
-abbrev seen-offers : Option Seen → List CoreAsk
+abbrev seen-offers : Option SeenTree → List CoreAsk
 seen-offers None = []
 seen-offers (Some s) = s.offers
 
 -- a lane that offers the same again isn't listed anew
-pub repeated-listed : (lane : ℕ) (t : Tree) (old mid : Laned) → IsKept old → lane < length old.trees → Steps lane t old mid →
+pub repeated-listed : (lane : ℕ) (t : Tree) (old mid : Laned) → AreLanesKept old → lane < length old.trees → Steps lane t old mid →
     offers t ≡ offers (tree_of_lane old lane) → IsListed mid lane
 repeated-listed lane t old mid kept low s again =
     let h = kept.listed lane low in
@@ -156,7 +156,7 @@ steps-level lane t old mid level s =
       rows = subst (λ rs. 1 ≤ length rs) (sym s.reached) level.rows;
     }
 
-pub takes-again : (lane offer rest : ℕ) (t : Tree) (old mid : Laned) → IsKept old → Finds old.lengths offer lane rest →
+pub takes-again : (lane offer rest : ℕ) (t : Tree) (old mid : Laned) → AreLanesKept old → Finds old.lengths offer lane rest →
     Alike t (left (tree_of_lane old lane) rest) → Repeats (tree_of_lane old lane) → Steps lane t old mid → TakesFrom lane offer old mid
 takes-again lane offer rest t old mid kept found alike repeats steps =
     let low : lane < length old.trees = (let h = found-within old.lengths lane rest found.within in let m = kept.level.lengths in omega (arith, h, m)) in

@@ -18,11 +18,11 @@ use Rattle.base.specs.declared.step.Step.TheVariants as step
 use Rattle.base.specs.declared.step.Outcome.TheVariants as outcome
 use Rattle.cache_table.specs.Table as cache_table
 use Rattle.cache_table.specs.declared.state.CacheState.{CacheState}
-use Rattle.cache_line.specs.declared.line.Line.{Line}
-use Rattle.cache_line.specs.declared.line.LineCompletion.{LineCompletion}
-use Rattle.cache_line.specs.declared.line.LineCompletion.TheVariants as done
-use Rattle.cache_line.specs.declared.line.LineInput.{LineInput}
-use Rattle.cache_line.specs.declared.line.LineInput.TheVariants as line_input
+use Rattle.control.specs.declared.line.Line.{Line}
+use Rattle.control.specs.declared.line.LineCompletion.{LineCompletion}
+use Rattle.control.specs.declared.line.LineCompletion.TheVariants as done
+use Rattle.control.specs.declared.line.LineInput.{LineInput}
+use Rattle.control.specs.declared.line.LineInput.TheVariants as line_input
 use Rattle.control.specs.LineEffect.{after_settling, line_after, line_completes, moved_on}
 use Rattle.machine.specs.declared.decision.Decision.{Decision}
 use Rattle.machine.specs.declared.decision.Decision.TheVariants.{Refused, AtLine, AtHome}
@@ -30,7 +30,7 @@ use Rattle.machine.specs.declared.made.Acted.{Acted}
 use Rattle.machine.specs.declared.made.Actor.{Actor}
 use Rattle.machine.specs.declared.made.Actor.TheVariants as actor
 use Rattle.machine.specs.declared.made.Made.{Made}
-use Rattle.both_tables.specs.Tables.{Tables}
+use Rattle.tables.specs.Tables.{Tables}
 use Rattle.machine.specs.Block.{BlockState, opened_block}
 use Rattle.machine.specs.Coherence.{line_at}
 use Rattle.machine.specs.Made.{IsTold, acted_by, actor_place, is_crowded, made_in, made_of, place_of, refused}
@@ -44,7 +44,7 @@ use Rattle.blocks.specs.Marking.{ask_stalls}
 use Rattle.blocks.proofs.Going.{Goes, decision-goes}
 use Rattle.blocks.proofs.Holding.{held-ask}
 use Rattle.cores.specs.Cores.{Core}
-use Rattle.lanes.specs.Lanes.{Follows}
+use Rattle.lanes.specs.Lanes.{FollowsStep}
 use Rattle.lanes.specs.inner.Changes.{AgreeBut}
 use Rattle.schedule.specs.Marks.{AreHeldAt}
 
@@ -144,7 +144,7 @@ was-sound tables s step e = by_case s.broken refl
 
 -- so two moments agree on each core but that of the cache whose cell acted, and on all lines but those of the step's block
 pub agree-but : (tables : Tables) (step : Step) (made : Made) (before behind : State) (cb cn : List Core) → before.broken ≡ false →
-    Follows tables step made before behind cb cn → AgreeBut (place_of made) (block_of step) before behind cb cn
+    FollowsStep tables step made before behind cb cn → AgreeBut (place_of made) (block_of step) before behind cb cn
 agree-but tables step made before behind cb cn sound f =
     let found = slice_get before.blocks (block_of step) in
     let came : behind ≡ (next_at tables before step found).state = f.told.state ∙ ap (λ (n : Next). n.state) (next-sound tables before step sound) in
@@ -212,7 +212,7 @@ home-only (actor.Line cache from to) h = absurd (h cache from to refl)
 -- where a cache's did, two moments agree but for that cache
 pub agree-line : (tables : Tables) (step : Step) (made : Made) (before behind : State) (acted : Acted) (cache : CacheId) (block : BlockId)
     (from to : CacheState)
-    (cb cn : List Core) → before.broken ≡ false → block.0 ≡ block_of step → Follows tables step made before behind cb cn → made.acted ≡ Some acted →
+    (cb cn : List Core) → before.broken ≡ false → block.0 ≡ block_of step → FollowsStep tables step made before behind cb cn → made.acted ≡ Some acted →
     acted.by ≡ actor.Line cache from to → AgreeBut (Some (Cache cache)) block.0 before behind cb cn
 agree-line tables step made before behind acted cache block from to cb cn sound here f is by =
     subst (λ n. AgreeBut (Some (Cache cache)) n before behind cb cn) (sym here)

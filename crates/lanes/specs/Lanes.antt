@@ -5,7 +5,7 @@ use Rattle.base.specs.declared.ids.CacheId.{CacheId}
 use Rattle.base.specs.declared.ids.Place.TheVariants.{Cache}
 use Rattle.base.specs.declared.step.CoreAsk.{CoreAsk}
 use Rattle.base.specs.declared.step.Step.{Step}
-use Rattle.both_tables.specs.Tables.{Tables}
+use Rattle.tables.specs.Tables.{Tables}
 use Rattle.machine.specs.declared.made.Made.{Made}
 use Rattle.machine.specs.Machine.{State}
 use Rattle.machine.specs.Made.{IsTold, place_of}
@@ -92,14 +92,14 @@ pub record IsLevel (l : Laned) : Type 0 where
   pub rows : 1 ≤ length l.reached
 
 -- so it is of each lane
-pub record IsKept (l : Laned) : Type 0 where
+pub record AreLanesKept (l : Laned) : Type 0 where
   pub level : IsLevel l
   pub listed : (lane : ℕ) → lane < length l.trees → IsListed l lane
 
 -- a tree is left, or one that is alike; and what is kept of each lane is right
 pub record AreLeft (tree : Tree) (l : Laned) : Type 0 where
   pub alike : Alike (whole l) tree
-  pub kept : IsKept l
+  pub kept : AreLanesKept l
 
 -- where the world isn't broken, the marks beside the offers are right, and so are the counts of what can be put
 pub record AreReady (tables : Tables) (state : State) (cores : List Core) (l : Laned) : Type 0 where
@@ -112,6 +112,6 @@ AreAsFree before behind = (core : ℕ) → is_free behind core ≡ is_free befor
 
 -- a step has led from a moment to another, and it is told what it came to; but for the core of the cache whose cell acted, if one's did, cores
 -- are free where they were
-pub record Follows (tables : Tables) (step : Step) (made : Made) (before behind : State) (cores_before cores_behind : List Core) : Type 0 where
+pub record FollowsStep (tables : Tables) (step : Step) (made : Made) (before behind : State) (cores_before cores_behind : List Core) : Type 0 where
   pub told : IsTold tables before step made behind
   pub free : (core : CacheId) → place_of made ≢ Some (Cache core) → is_free cores_behind core.0 ≡ is_free cores_before core.0

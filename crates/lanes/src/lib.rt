@@ -1,4 +1,5 @@
-//! What is left of a scenario by its lanes, by which the choices of a moment are counted, and one is found without a list.
+//! What is left of a scenario by its lanes, by which the choices of a moment are counted, and one is found without a
+//! list.
 #![tactic(auto)]
 
 mod lanes;

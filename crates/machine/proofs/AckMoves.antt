@@ -5,7 +5,7 @@ use Rattle.std.proofs.lemmas.Bool.{cases_eq}
 use Rattle.base.specs.declared.ids.BlockId.{BlockId}
 use Rattle.base.specs.declared.ids.CacheId.{CacheId}
 use Rattle.base.specs.declared.ids.Place.TheVariants.{Dir, Cache}
-use Rattle.base.specs.declared.controller.entry.Entry.TheVariants.{Blank, Stall, Act}
+use Rattle.base.specs.declared.controller.entry.CellEntry.TheVariants.{Blank, Stall, Act}
 use Rattle.network.specs.declared.message.Response.{Response}
 use Rattle.network.specs.declared.message.Response.TheVariants.{Data, InvAck, DataExcl}
 use Rattle.cache_table.specs.declared.state.CacheState.{CacheState}
@@ -16,9 +16,9 @@ use Rattle.cache_table.specs.declared.event.CacheEvent.TheVariants as event
 use Rattle.cache_table.specs.Table.{cell}
 use Rattle.cache_table.specs.Baseline.{baseline_entry}
 use Rattle.cache_table.proofs.BaselineCells.{cell-baseline}
-use Rattle.cache_line.specs.declared.line.Line.{Line}
-use Rattle.control.specs.Events.{is_count, more_acks}
-use Rattle.both_tables.specs.Tables.{Tables, baseline_of}
+use Rattle.control.specs.declared.line.Line.{Line}
+use Rattle.control.specs.LineEvents.{is_count, more_acks}
+use Rattle.tables.specs.Tables.{Tables, baseline_of}
 use Rattle.machine.specs.Block.{BlockState}
 use Rattle.machine.specs.Going.{KeepsGoing, AwaitsData, DataWaits, AckMayWait, LastAckMayWait}
 use Rattle.machine.proofs.Acks.{sum-early, sum-late}

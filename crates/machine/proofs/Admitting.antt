@@ -11,20 +11,20 @@ use Rattle.network.specs.declared.message.Forward.{Forward}
 use Rattle.network.specs.declared.message.Response.{Response}
 use Rattle.network.specs.declared.message.Response.TheVariants.{Data, InvAck, DataExcl}
 use Rattle.network.specs.Traffic.{link}
-use Rattle.cache_line.specs.declared.line.Line.{Line}
-use Rattle.cache_line.specs.declared.line.LineInput.{LineInput}
-use Rattle.cache_line.specs.declared.line.LineInput.TheVariants as line_input
-use Rattle.block_home.specs.declared.home.Home.{Home}
-use Rattle.block_home.specs.declared.home.HomeInput.{HomeInput}
-use Rattle.block_home.specs.declared.home.HomeInput.TheVariants as home_input
-use Rattle.control.specs.Events.{event_at_line, event_at_home}
+use Rattle.control.specs.declared.line.Line.{Line}
+use Rattle.control.specs.declared.line.LineInput.{LineInput}
+use Rattle.control.specs.declared.line.LineInput.TheVariants as line_input
+use Rattle.control.specs.declared.home.Home.{Home}
+use Rattle.control.specs.declared.home.HomeInput.{HomeInput}
+use Rattle.control.specs.declared.home.HomeInput.TheVariants as home_input
+use Rattle.control.specs.LineEvents.{event_at_line}
+use Rattle.control.specs.HomeEvents.{event_at_home}
 use Rattle.machine.specs.declared.decision.Origin.{Origin}
 use Rattle.machine.specs.declared.decision.Origin.TheVariants as origin
 use Rattle.machine.specs.declared.decision.Decision.{Decision}
-use Rattle.both_tables.specs.Tables.{Tables, baseline_of}
+use Rattle.tables.specs.Tables.{Tables, baseline_of}
 use Rattle.machine.specs.Block.{BlockState}
-use Rattle.machine.specs.Transition.{Transition, transition, decision_of, at_line, at_home}
-use Rattle.machine.specs.Transition.{at_ask, at_request, at_forward, at_response, is_idle}
+use Rattle.machine.specs.Transition.{Transition, transition, decision_of, at_line, at_home, at_ask, at_request, at_forward, at_response, is_idle}
 use Rattle.machine.specs.Restraint.{AreRestrained}
 use Rattle.machine.proofs.Sound.{Sound, Fine}
 use Rattle.machine.proofs.Values.{Valued}

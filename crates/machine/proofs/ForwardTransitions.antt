@@ -15,8 +15,8 @@ use Rattle.network.specs.declared.message.Response.TheVariants as response
 use Rattle.network.specs.Traffic.{Traffic, link, head_taken, response_sent}
 use Rattle.cache_table.specs.declared.state.CacheState.{CacheState}
 use Rattle.cache_table.specs.declared.state.CacheState.TheVariants.{I, IsD, ImAd, ImA, S, SmAd, SmA, M, MiA, SiA, IiA, E}
-use Rattle.cache_line.specs.declared.line.Line.{Line}
-use Rattle.cache_line.specs.declared.line.LineInput.TheVariants as line_input
+use Rattle.control.specs.declared.line.Line.{Line}
+use Rattle.control.specs.declared.line.LineInput.TheVariants as line_input
 use Rattle.machine.proofs.Truths.{Never}
 use Rattle.machine.specs.Block.{BlockState}
 use Rattle.control.specs.LineEffect.{line_after}

@@ -1,5 +1,5 @@
 -- Where the Data of a store waits for its acks, no line ever gathers them after it.
-use Rattle.std.proofs.Common.{◌≡◌, ◌⊎◌, List, [], ◌∷◌, inl, inr, ℕ, refl, ap, sym, subst, ◌∙◌, Option, Some, None, Bool, true, false}
+use Rattle.std.proofs.Common.{◌≡◌, ◌⊎◌, inl, inr, ℕ, refl, ap, sym, subst, ◌∙◌, Option, Some, None, Bool, true, false}
 use Rattle.std.proofs.Common.{if◌then◌else◌, slice_get, slice_set}
 use Rattle.std.proofs.lemmas.Bool.{cases_eq}
 use Rattle.base.specs.declared.ids.CacheId.{CacheId}
@@ -10,7 +10,7 @@ use Rattle.base.specs.declared.step.Ask.{Ask}
 use Rattle.base.specs.declared.step.Step.{Step}
 use Rattle.base.specs.declared.step.Step.TheVariants as step
 use Rattle.base.specs.declared.step.Outcome.TheVariants as outcome
-use Rattle.base.specs.declared.controller.entry.Entry.TheVariants as entry
+use Rattle.base.specs.declared.controller.entry.CellEntry.TheVariants as entry
 use Rattle.network.specs.declared.message.Request.{Request}
 use Rattle.network.specs.declared.message.Forward.{Forward}
 use Rattle.network.specs.declared.message.Response.{Response}
@@ -24,13 +24,13 @@ use Rattle.cache_table.specs.Table.{CacheEntry, cell}
 use Rattle.cache_table.specs.Baseline.{baseline_entry}
 use Rattle.cache_table.proofs.BaselineCells.{cell-baseline}
 use Rattle.directory_table.specs.Table.{DirectoryEntry}
-use Rattle.cache_line.specs.declared.line.Line.{Line}
-use Rattle.cache_line.specs.declared.line.LineInput.{LineInput}
-use Rattle.cache_line.specs.declared.line.LineInput.TheVariants as line_input
-use Rattle.block_home.specs.declared.home.HomeInput.{HomeInput}
-use Rattle.control.specs.Events.{event_at_line}
+use Rattle.control.specs.declared.line.Line.{Line}
+use Rattle.control.specs.declared.line.LineInput.{LineInput}
+use Rattle.control.specs.declared.line.LineInput.TheVariants as line_input
+use Rattle.control.specs.declared.home.HomeInput.{HomeInput}
+use Rattle.control.specs.LineEvents.{event_at_line}
 use Rattle.control.specs.LineEffect.{line_after, line_completes, moved_on}
-use Rattle.both_tables.specs.Tables.{Tables, baseline_of}
+use Rattle.tables.specs.Tables.{Tables, baseline_of}
 use Rattle.machine.specs.declared.decision.Origin.{Origin}
 use Rattle.machine.specs.declared.decision.Origin.TheVariants as origin
 use Rattle.machine.specs.declared.decision.Decision.{Decision}

@@ -17,7 +17,7 @@ use Rattle.network.specs.declared.message.Response.{Response}
 use Rattle.network.specs.declared.message.Response.TheVariants.{Data, DataExcl}
 use Rattle.network.specs.Traffic.{Traffic, request_taken, response_sent, forward_sent}
 use Rattle.directory_table.specs.declared.state.DirectoryState.TheVariants as home
-use Rattle.block_home.specs.declared.home.Home.{Home}
+use Rattle.control.specs.declared.home.Home.{Home}
 use Rattle.control.specs.Sharing.{shares}
 use Rattle.machine.specs.Block.{BlockState}
 use Rattle.machine.proofs.Views.{View, Block, Good, HasFwdGetS}

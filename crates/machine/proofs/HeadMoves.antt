@@ -15,8 +15,8 @@ use Rattle.cache_table.specs.declared.state.CacheState.TheVariants.{IsD}
 use Rattle.cache_table.specs.declared.event.CacheEvent.TheVariants as line_event
 use Rattle.cache_table.specs.Baseline as cache_table
 use Rattle.directory_table.specs.declared.state.DirectoryState.TheVariants as home
-use Rattle.cache_line.specs.declared.line.Line.{Line}
-use Rattle.control.specs.Events.{forward_event}
+use Rattle.control.specs.declared.line.Line.{Line}
+use Rattle.control.specs.LineEvents.{forward_event}
 use Rattle.machine.proofs.Truths.{Never}
 use Rattle.machine.specs.Block.{BlockState}
 use Rattle.machine.proofs.Quiet.{IsQuiet}
@@ -29,7 +29,7 @@ use Rattle.machine.proofs.ForwardTransitions.{rest_of, own-begins}
 use Rattle.machine.proofs.Ranks.{Ranked, owed_to}
 use Rattle.machine.proofs.StallRules.{Serves, Unanswered, HasInvIn}
 use Rattle.machine.proofs.StallRules.{put_ack_serves, inv_serves, fwd_gets_serves, fwd_getm_serves, inv_first}
-use Rattle.both_tables.specs.Tables.{Tables}
+use Rattle.tables.specs.Tables.{Tables}
 use Rattle.machine.specs.Going.{KeepsGoing, AwaitsData}
 use Rattle.machine.proofs.Moves.{line-there, Found, found-request, found-head}
 use Rattle.machine.proofs.ResponseMoves.{data-found}

@@ -10,14 +10,13 @@ use Rattle.base.specs.declared.step.Step.TheVariants as step
 use Rattle.base.specs.declared.step.Outcome.TheVariants as outcome
 use Rattle.network.specs.declared.message.Forward.{Forward}
 use Rattle.network.specs.Traffic.{Traffic, link}
-use Rattle.cache_line.specs.declared.line.Line.{Line}
-use Rattle.cache_line.specs.declared.line.LineInput.TheVariants as line_input
+use Rattle.control.specs.declared.line.Line.{Line}
+use Rattle.control.specs.declared.line.LineInput.TheVariants as line_input
 use Rattle.machine.specs.Block.{BlockState}
-use Rattle.machine.specs.Transition.{carried_out, at_line, at_ask}
-use Rattle.machine.specs.Transition.{is_idle, transition}
+use Rattle.machine.specs.Transition.{carried_out, at_line, at_ask, is_idle, transition, by_line_entry}
 use Rattle.machine.specs.declared.decision.Origin.TheVariants as origin
 use Rattle.machine.specs.declared.decision.Decision.TheVariants.{Refused}
-use Rattle.both_tables.specs.Tables.{Tables, baseline_of}
+use Rattle.tables.specs.Tables.{Tables, baseline_of}
 use Rattle.machine.proofs.Quiet.{IsQuiet}
 use Rattle.machine.proofs.Counts.{total}
 use Rattle.machine.proofs.Seen.{seen, names, is_fwd_gets, is_fwd_getm, is_inv, dir_data, owner_data, excl_data, inv_ack}
@@ -35,8 +34,7 @@ use Rattle.machine.proofs.Views.{View, Local}
 use Rattle.machine.specs.Going.{KeepsGoing, ServesAsks, IsSettled}
 use Rattle.cache_table.specs.Table.{CacheEntry}
 use Rattle.cache_table.specs.Baseline.{msi_e_entry}
-use Rattle.control.specs.Events.{ask_event}
-use Rattle.machine.specs.Transition.{by_line_entry}
+use Rattle.control.specs.LineEvents.{ask_event}
 use Rattle.cache_table.specs.declared.state.CacheState.{CacheState}
 use Rattle.cache_table.specs.declared.state.CacheState.TheVariants.{I, IsD, ImAd, ImA, S, SmAd, SmA, M, MiA, SiA, IiA, E}
 use Rattle.machine.proofs.HeadMoves.{find-link}

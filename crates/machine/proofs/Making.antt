@@ -3,7 +3,7 @@ use Rattle.std.proofs.Common.{◌≡◌, ◌∙◌, Bool, true, false, if◌then
 use Rattle.base.specs.Steps.{block_of}
 use Rattle.base.specs.declared.step.Outcome.TheVariants.{Broken}
 use Rattle.base.specs.declared.step.Step.{Step}
-use Rattle.both_tables.specs.Tables.{Tables}
+use Rattle.tables.specs.Tables.{Tables}
 use Rattle.machine.specs.Block.{BlockState}
 use Rattle.machine.specs.declared.made.Made.{Made}
 use Rattle.machine.specs.Made.{IsTold, made_in, made_of, refused}

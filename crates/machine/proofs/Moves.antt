@@ -11,7 +11,7 @@ use Rattle.base.specs.declared.step.Step.{Step}
 use Rattle.base.specs.declared.step.Step.TheVariants as step
 use Rattle.base.specs.declared.step.Outcome.{Outcome}
 use Rattle.base.specs.declared.step.Outcome.TheVariants as outcome
-use Rattle.base.specs.declared.controller.entry.Entry.TheVariants as entry
+use Rattle.base.specs.declared.controller.entry.CellEntry.TheVariants as entry
 use Rattle.base.specs.Steps.{block_of}
 use Rattle.network.specs.declared.message.Request.{Request}
 use Rattle.network.specs.declared.message.RequestKind.{RequestKind}
@@ -37,17 +37,18 @@ use Rattle.directory_table.specs.Table.{DirectoryEntry}
 use Rattle.directory_table.specs.Table as directory_table
 use Rattle.directory_table.specs.Baseline as directory_baseline
 use Rattle.directory_table.proofs.BaselineCells as directory_cells
-use Rattle.cache_line.specs.declared.line.Line.{Line}
-use Rattle.cache_line.specs.declared.line.LineInput.{LineInput}
-use Rattle.cache_line.specs.declared.line.LineInput.TheVariants as line_input
-use Rattle.cache_line.specs.declared.line.LineCompletion.{LineCompletion}
-use Rattle.cache_line.specs.declared.line.LineCompletion.TheVariants as done
-use Rattle.block_home.specs.declared.home.HomeInput.{HomeInput}
-use Rattle.block_home.specs.declared.home.HomeInput.TheVariants as home_input
+use Rattle.control.specs.declared.line.Line.{Line}
+use Rattle.control.specs.declared.line.LineInput.{LineInput}
+use Rattle.control.specs.declared.line.LineInput.TheVariants as line_input
+use Rattle.control.specs.declared.line.LineCompletion.{LineCompletion}
+use Rattle.control.specs.declared.line.LineCompletion.TheVariants as done
+use Rattle.control.specs.declared.home.HomeInput.{HomeInput}
+use Rattle.control.specs.declared.home.HomeInput.TheVariants as home_input
 use Rattle.control.specs.Sharing.{shares, is_sole, others_from}
-use Rattle.control.specs.Events.{event_at_line, forward_event, response_event, is_count, more_acks, event_at_home, owns}
+use Rattle.control.specs.LineEvents.{event_at_line, forward_event, response_event, is_count, more_acks}
+use Rattle.control.specs.HomeEvents.{event_at_home, owns}
 use Rattle.control.specs.LineEffect.{line_completes}
-use Rattle.both_tables.specs.Tables.{Tables, baseline_of}
+use Rattle.tables.specs.Tables.{Tables, baseline_of}
 use Rattle.machine.specs.Block.{BlockState}
 use Rattle.machine.specs.Transition.{Transition, outcome_of, carried_out, by_line_entry, by_home_entry, at_line, at_home, at_request}
 use Rattle.machine.specs.Transition.{at_forward, at_response, transition}

@@ -35,14 +35,15 @@ use Rattle.directory_table.specs.Table as directory_table
 use Rattle.directory_table.specs.Table.{DirectoryEntry}
 use Rattle.directory_table.specs.Baseline as directory_baseline
 use Rattle.directory_table.proofs.BaselineCells as directory_cells
-use Rattle.cache_line.specs.declared.line.Line.{Line}
-use Rattle.cache_line.specs.declared.line.LineInput.{LineInput}
-use Rattle.cache_line.specs.declared.line.LineInput.TheVariants as line_input
-use Rattle.block_home.specs.declared.home.HomeInput.{HomeInput}
-use Rattle.block_home.specs.declared.home.HomeInput.TheVariants as home_input
+use Rattle.control.specs.declared.line.Line.{Line}
+use Rattle.control.specs.declared.line.LineInput.{LineInput}
+use Rattle.control.specs.declared.line.LineInput.TheVariants as line_input
+use Rattle.control.specs.declared.home.HomeInput.{HomeInput}
+use Rattle.control.specs.declared.home.HomeInput.TheVariants as home_input
 use Rattle.control.specs.Sharing.{is_sole}
-use Rattle.control.specs.Events.{ask_event, forward_event, response_event, event_at_line, event_at_home, owns}
-use Rattle.both_tables.specs.Tables.{Tables, baseline_of}
+use Rattle.control.specs.LineEvents.{ask_event, forward_event, response_event, event_at_line}
+use Rattle.control.specs.HomeEvents.{event_at_home, owns}
+use Rattle.tables.specs.Tables.{Tables, baseline_of}
 use Rattle.machine.specs.Block.{BlockState}
 use Rattle.machine.specs.declared.decision.Origin.{Origin}
 use Rattle.machine.specs.declared.decision.Origin.TheVariants as origin

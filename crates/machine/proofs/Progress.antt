@@ -17,9 +17,9 @@ use Rattle.cache_table.specs.declared.event.CacheEvent.{CacheEvent}
 use Rattle.cache_table.specs.Table.{CacheEntry}
 use Rattle.cache_table.specs.Baseline.{baseline_entry}
 use Rattle.cache_table.proofs.BaselineCells.{cell-baseline}
-use Rattle.cache_line.specs.declared.line.Line.{Line}
+use Rattle.control.specs.declared.line.Line.{Line}
 use Rattle.control.specs.LineEffect.{opened_line}
-use Rattle.both_tables.specs.Tables.{Tables, baseline_of}
+use Rattle.tables.specs.Tables.{Tables, baseline_of}
 use Rattle.machine.specs.Transition.{transition}
 use Rattle.machine.specs.Machine.{State, Next, IsRefusal, next, next_at, is_blank, opened, state_after}
 use Rattle.machine.specs.Unstuck.{Unstuck, Flows, Flowing}

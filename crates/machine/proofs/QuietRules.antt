@@ -5,7 +5,7 @@ use Rattle.cache_table.specs.declared.state.CacheState.TheVariants.{I, IsD, ImAd
 use Rattle.cache_table.specs.declared.event.CacheEvent.TheVariants as event
 use Rattle.cache_table.specs.Table.{CacheEntry}
 use Rattle.cache_table.specs.Baseline.{msi_e_entry}
-use Rattle.base.specs.declared.controller.entry.Entry.TheVariants.{Blank, Stall, Act}
+use Rattle.base.specs.declared.controller.entry.CellEntry.TheVariants.{Blank, Stall, Act}
 
 -- a response is answered by nothing
 abbrev pub QuietRule : CacheEntry → Type 0

@@ -21,7 +21,7 @@ use Rattle.network.specs.declared.message.Response.TheVariants as response
 use Rattle.network.specs.Traffic.{Traffic, link, request_taken, response_taken, response_sent, head_taken, forward_sent, all_sent}
 use Rattle.network.proofs.Sending.{all_sent-append}
 use Rattle.cache_table.specs.Table.{CacheEntry}
-use Rattle.base.specs.declared.controller.entry.Entry.TheVariants as entry
+use Rattle.base.specs.declared.controller.entry.CellEntry.TheVariants as entry
 use Rattle.cache_table.specs.declared.actions.CacheAction.{CacheAction}
 use Rattle.cache_table.specs.Table as cache_table_cells
 use Rattle.directory_table.specs.declared.state.DirectoryState.{DirectoryState}
@@ -31,13 +31,14 @@ use Rattle.directory_table.specs.Table.{DirectoryEntry}
 use Rattle.directory_table.specs.declared.actions.DirectoryAction.TheVariants as action
 use Rattle.directory_table.specs.Baseline as directory_table
 use Rattle.directory_table.proofs.BaselineCells as directory_cells
-use Rattle.cache_line.specs.declared.line.Line.{Line}
-use Rattle.cache_line.specs.declared.line.LineInput.{LineInput}
-use Rattle.cache_line.specs.declared.line.LineInput.TheVariants as line_input
-use Rattle.block_home.specs.declared.home.HomeInput.TheVariants as home_input
+use Rattle.control.specs.declared.line.Line.{Line}
+use Rattle.control.specs.declared.line.LineInput.{LineInput}
+use Rattle.control.specs.declared.line.LineInput.TheVariants as line_input
+use Rattle.control.specs.declared.home.HomeInput.TheVariants as home_input
 use Rattle.control.specs.Sharing.{shares, is_sole, others_from}
 use Rattle.control.specs.LineEffect.{line_messages, line_message, taken_in, requestor_of}
-use Rattle.control.specs.Events.{event_at_line, event_at_home, owns}
+use Rattle.control.specs.LineEvents.{event_at_line}
+use Rattle.control.specs.HomeEvents.{event_at_home, owns}
 use Rattle.machine.proofs.Truths.{Never}
 use Rattle.machine.proofs.Invitations.{invs_from, invs-link, invited}
 use Rattle.machine.specs.Block.{BlockState}

@@ -9,9 +9,9 @@ use Rattle.network.specs.declared.message.Response.{Response}
 use Rattle.network.specs.declared.message.Response.TheVariants.{Data, InvAck, DataExcl}
 use Rattle.cache_table.specs.declared.state.CacheState.{CacheState}
 use Rattle.cache_table.specs.declared.event.CacheEvent.TheVariants as event
-use Rattle.cache_line.specs.declared.line.Line.{Line}
-use Rattle.control.specs.Events.{is_count, more_acks}
-use Rattle.both_tables.specs.Tables.{Tables}
+use Rattle.control.specs.declared.line.Line.{Line}
+use Rattle.control.specs.LineEvents.{is_count, more_acks}
+use Rattle.tables.specs.Tables.{Tables}
 use Rattle.machine.specs.Block.{BlockState}
 use Rattle.machine.specs.Going.{KeepsGoing}
 use Rattle.machine.proofs.Counts.{only}

@@ -13,14 +13,14 @@ use Rattle.cache_table.specs.declared.state.CacheState.TheVariants.{I, IsD, ImAd
 use Rattle.cache_table.specs.declared.event.CacheEvent.TheVariants as event
 use Rattle.cache_table.specs.Baseline.{msi_e_entry}
 use Rattle.cache_table.specs.Table.{CacheEntry}
-use Rattle.base.specs.declared.controller.entry.Entry.TheVariants as entry
+use Rattle.base.specs.declared.controller.entry.CellEntry.TheVariants as entry
 use Rattle.cache_table.specs.declared.actions.CacheAction.{CacheAction}
-use Rattle.cache_line.specs.declared.line.Line.{Line}
-use Rattle.cache_line.specs.declared.line.LineInput.{LineInput}
-use Rattle.cache_line.specs.declared.line.LineInput.TheVariants as line_input
-use Rattle.block_home.specs.declared.home.Home.{Home}
+use Rattle.control.specs.declared.line.Line.{Line}
+use Rattle.control.specs.declared.line.LineInput.{LineInput}
+use Rattle.control.specs.declared.line.LineInput.TheVariants as line_input
+use Rattle.control.specs.declared.home.Home.{Home}
 use Rattle.control.specs.LineEffect.{taken_in, one_ack_less, line_after, line_completes}
-use Rattle.control.specs.Events.{more_acks, is_count, event_at_line}
+use Rattle.control.specs.LineEvents.{more_acks, is_count, event_at_line}
 use Rattle.machine.specs.Block.{BlockState}
 use Rattle.machine.specs.declared.decision.Origin.TheVariants as origin
 use Rattle.machine.specs.Transition.{carried_out, by_line_entry}

@@ -11,13 +11,13 @@ use Rattle.cache_table.specs.declared.state.CacheState.TheVariants.{MiA}
 use Rattle.cache_table.specs.declared.event.CacheEvent.{CacheEvent}
 use Rattle.cache_table.specs.declared.event.CacheEvent.TheVariants as event
 use Rattle.cache_table.specs.Table.{CacheEntry}
-use Rattle.base.specs.declared.controller.entry.Entry.TheVariants as entry
+use Rattle.base.specs.declared.controller.entry.CellEntry.TheVariants as entry
 use Rattle.cache_table.specs.declared.actions.CacheAction.{CacheAction}
 use Rattle.cache_table.specs.Baseline.{msi_e_entry}
-use Rattle.cache_line.specs.declared.line.Line.{Line}
-use Rattle.cache_line.specs.declared.line.LineInput.TheVariants as line_input
+use Rattle.control.specs.declared.line.Line.{Line}
+use Rattle.control.specs.declared.line.LineInput.TheVariants as line_input
 use Rattle.control.specs.LineEffect.{line_messages, taken_in}
-use Rattle.control.specs.Events.{event_at_line, is_count, more_acks}
+use Rattle.control.specs.LineEvents.{event_at_line, is_count, more_acks}
 use Rattle.machine.specs.Block.{BlockState}
 use Rattle.machine.specs.Transition.{carried_out, by_line_entry}
 use Rattle.machine.specs.declared.decision.Origin.TheVariants as origin

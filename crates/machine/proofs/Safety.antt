@@ -4,7 +4,7 @@ use Rattle.base.specs.Extent.{Extent, IsWithinLimits}
 use Rattle.base.specs.declared.step.Step.{Step}
 use Rattle.machine.specs.Machine.{opened, after, outcomes_of}
 use Rattle.base.specs.declared.controller.protocol.Protocol.{Protocol}
-use Rattle.both_tables.specs.Tables.{Tables, baseline_of}
+use Rattle.tables.specs.Tables.{Tables, baseline_of}
 use Rattle.machine.specs.Block.{BlockState}
 use Rattle.machine.specs.Transition.{transition}
 use Rattle.machine.specs.Restraint.{AreRestrained}

@@ -9,12 +9,12 @@ use Rattle.cache_table.specs.declared.state.CacheState.TheVariants.{I, IsD, ImAd
 use Rattle.cache_table.specs.declared.event.CacheEvent.{CacheEvent}
 use Rattle.cache_table.specs.declared.event.CacheEvent.TheVariants as event
 use Rattle.cache_table.specs.Table.{CacheEntry}
-use Rattle.base.specs.declared.controller.entry.Entry.TheVariants.{Blank, Stall, Act}
+use Rattle.base.specs.declared.controller.entry.CellEntry.TheVariants.{Blank, Stall, Act}
 use Rattle.cache_table.specs.Baseline.{msi_e_entry}
-use Rattle.cache_line.specs.declared.line.Line.{Line}
-use Rattle.cache_line.specs.declared.line.LineInput.{LineInput}
-use Rattle.cache_line.specs.declared.line.LineCompletion.{LineCompletion}
-use Rattle.cache_line.specs.declared.line.LineCompletion.TheVariants as done
+use Rattle.control.specs.declared.line.Line.{Line}
+use Rattle.control.specs.declared.line.LineInput.{LineInput}
+use Rattle.control.specs.declared.line.LineCompletion.{LineCompletion}
+use Rattle.control.specs.declared.line.LineCompletion.TheVariants as done
 use Rattle.control.specs.LineEffect.{settled, pending_completed, after_settling, after_message}
 use Rattle.machine.proofs.Truths.{Always, Never}
 use Rattle.machine.specs.Transition.{latest_after}

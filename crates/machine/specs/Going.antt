@@ -1,6 +1,6 @@
 -- Restrained tables under which no run gets stuck: which of their stalls are harmless.
 use Rattle.std.specs.Prelude.{◌≡◌, ◌⊎◌}
-use Rattle.base.specs.declared.controller.entry.Entry.TheVariants.{Blank, Stall}
+use Rattle.base.specs.declared.controller.entry.CellEntry.TheVariants.{Blank, Stall}
 use Rattle.cache_table.specs.declared.state.CacheState.{CacheState}
 use Rattle.cache_table.specs.declared.state.CacheState.TheVariants.{I, ImAd, ImA, S, SmAd, SmA, M, E}
 use Rattle.cache_table.specs.declared.event.CacheEvent.{CacheEvent}
@@ -11,7 +11,7 @@ use Rattle.directory_table.specs.declared.state.DirectoryState.TheVariants as ho
 use Rattle.directory_table.specs.declared.event.DirectoryEvent.{DirectoryEvent}
 use Rattle.directory_table.specs.declared.event.DirectoryEvent.TheVariants.{PutSNotLast, PutSLast, PutMNonOwner}
 use Rattle.directory_table.specs.Table as directory_table
-use Rattle.both_tables.specs.Tables.{Tables, baseline_of}
+use Rattle.tables.specs.Tables.{Tables, baseline_of}
 use Rattle.machine.specs.Restraint.{AreRestrained}
 
 -- a store waits for its Data

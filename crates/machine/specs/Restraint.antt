@@ -1,17 +1,17 @@
 -- Tables that do nothing but what the protocol's own do.
 use Rattle.std.specs.Prelude.{◌≡◌, ◌⊎◌}
-use Rattle.base.specs.declared.controller.entry.Entry.{Entry}
-use Rattle.base.specs.declared.controller.entry.Entry.TheVariants.{Blank, Stall}
+use Rattle.base.specs.declared.controller.entry.CellEntry.{CellEntry}
+use Rattle.base.specs.declared.controller.entry.CellEntry.TheVariants.{Blank, Stall}
 use Rattle.cache_table.specs.declared.state.CacheState.{CacheState}
 use Rattle.cache_table.specs.declared.event.CacheEvent.{CacheEvent}
 use Rattle.cache_table.specs.Table as cache_table
 use Rattle.directory_table.specs.declared.state.DirectoryState.{DirectoryState}
 use Rattle.directory_table.specs.declared.event.DirectoryEvent.{DirectoryEvent}
 use Rattle.directory_table.specs.Table as directory_table
-use Rattle.both_tables.specs.Tables.{Tables, baseline_of}
+use Rattle.tables.specs.Tables.{Tables, baseline_of}
 
 -- what a cell may hold in place of the own entry: that, a stall, or anything where the own one is blank, which no run meets
-abbrev pub Admits : {S A : Type 0} → Entry S A → Entry S A → Type 0
+abbrev pub Admits : {S A : Type 0} → CellEntry S A → CellEntry S A → Type 0
 Admits own entry = (entry ≡ own) ⊎ (entry ≡ Stall) ⊎ (own ≡ Blank)
 
 -- each cell holds what it may hold

@@ -11,7 +11,7 @@ use Rattle.cache_table.specs.declared.state.CacheState.TheVariants as cache_stat
 use Rattle.cache_table.specs.declared.event.CacheEvent.{CacheEvent}
 use Rattle.cache_table.specs.declared.event.CacheEvent.TheVariants as cache_event
 use Rattle.cache_table.specs.Table.{CacheEntry}
-use Rattle.base.specs.declared.controller.entry.Entry.TheVariants as table_entry
+use Rattle.base.specs.declared.controller.entry.CellEntry.TheVariants as table_entry
 use Rattle.cache_table.specs.declared.actions.CacheAction.TheVariants as cache_action
 use Rattle.directory_table.specs.Table as directory_table
 use Rattle.directory_table.specs.declared.state.DirectoryState.{DirectoryState}
@@ -21,7 +21,7 @@ use Rattle.directory_table.specs.declared.event.DirectoryEvent.TheVariants as di
 use Rattle.directory_table.specs.Table.{DirectoryEntry}
 use Rattle.directory_table.specs.declared.actions.DirectoryAction.TheVariants as directory_action
 use Rattle.base.specs.declared.controller.protocol.Protocol.TheVariants.{MsiE}
-use Rattle.both_tables.specs.Tables.{Tables, baseline, baseline_of}
+use Rattle.tables.specs.Tables.{Tables, baseline, baseline_of}
 use Rattle.machine.specs.Machine.{opened, after}
 use Rattle.machine.specs.Restraint.{AreRestrained}
 use Rattle.machine.specs.Coherence.{Safe}

@@ -5,7 +5,7 @@ ghost use Rattle.base.specs.declared.step.Outcome.{Outcome};
 ghost use Rattle.base.specs.declared.step.Step.{Step};
 ghost use Rattle.machine.specs.declared.decision.Decision.{Decision};
 ghost use Rattle.base.specs.declared.controller.protocol.Protocol.{Protocol};
-ghost use Rattle.both_tables.specs.Tables.{Tables, baseline_of};
+ghost use Rattle.tables.specs.Tables.{Tables, baseline_of};
 ghost use Rattle.machine.specs.Coherence.{Met, Safe};
 ghost use Rattle.machine.specs.Restraint.{AreRestrained};
 ghost use Rattle.machine.specs.Going.{AreNeverStuck, KeepsGoing};

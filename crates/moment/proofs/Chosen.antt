@@ -10,7 +10,7 @@ use Rattle.network.specs.declared.message.Request.{Request}
 use Rattle.network.specs.declared.message.Forward.{Forward}
 use Rattle.network.specs.declared.message.Response.{Response}
 use Rattle.machine.specs.Block.{BlockState}
-use Rattle.both_tables.specs.Tables.{Tables}
+use Rattle.tables.specs.Tables.{Tables}
 use Rattle.machine.specs.Machine.{State, next}
 use Rattle.machine.specs.Unstuck.{IsDelivery}
 use Rattle.blocks.specs.Looks.{is_held}

@@ -5,13 +5,13 @@ use Rattle.std.specs.Prelude.{is_none}
 use Rattle.base.specs.declared.ids.CacheId.{CacheId}
 use Rattle.base.specs.declared.step.CoreAsk.{CoreAsk}
 use Rattle.base.specs.declared.step.Step.{Step}
-use Rattle.both_tables.specs.Tables.{Tables}
+use Rattle.tables.specs.Tables.{Tables}
 use Rattle.machine.specs.declared.made.Made.{Made}
 use Rattle.machine.specs.Completions.{Completion}
 use Rattle.machine.specs.Machine.{State}
 use Rattle.machine.specs.Made.{IsTold}
 use Rattle.cores.specs.Cores.{Core, finishing, is_free, issuing, with_core}
-use Rattle.lanes.specs.Lanes.{AreAsFree, Follows}
+use Rattle.lanes.specs.Lanes.{AreAsFree, FollowsStep}
 use Rattle.moment.specs.Moments.{cores_after, with_finished, with_issued}
 use Rattle.moment.specs.inner.Noting.{AreFree}
 use Rattle.moment.proofs.Apart.{free-stays}
@@ -19,7 +19,7 @@ use Rattle.moment.proofs.CoreSteps.{free-tells, past-free, with-here, with-lengt
 
 -- a step that was told, and whose outcome the cores have noted, leads from one moment to the next
 pub follows-noted : (tables : Tables) (step : Step) (made : Made) (before behind : State) (cores new : List Core) → IsTold tables before step made behind →
-    new ≡ cores_after step made.outcome cores → Follows tables step made before behind cores new
+    new ≡ cores_after step made.outcome cores → FollowsStep tables step made before behind cores new
 follows-noted tables step made before behind cores new told noted = record {
   told = told;
   free = λ core ne. ap (λ cs. is_free cs core.0) noted ∙ free-stays tables before step made behind cores core told ne;

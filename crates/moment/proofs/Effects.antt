@@ -19,25 +19,26 @@ use Rattle.network.specs.declared.message.Response.TheVariants.{Data, InvAck, Da
 use Rattle.network.specs.Traffic.{link}
 use Rattle.cache_table.specs.Table as cache_table
 use Rattle.cache_table.specs.Table.{CacheEntry}
-use Rattle.base.specs.declared.controller.entry.Entry.TheVariants as table_entry
+use Rattle.base.specs.declared.controller.entry.CellEntry.TheVariants as table_entry
 use Rattle.cache_table.specs.declared.state.CacheState.{CacheState}
 use Rattle.cache_table.specs.declared.actions.CacheAction.{CacheAction}
 use Rattle.directory_table.specs.Table as directory_table
 use Rattle.directory_table.specs.Table.{DirectoryEntry}
-use Rattle.cache_line.specs.declared.line.Line.{Line}
-use Rattle.cache_line.specs.declared.line.LineInput.{LineInput}
-use Rattle.cache_line.specs.declared.line.LineInput.TheVariants as line_input
-use Rattle.cache_line.specs.declared.line.LineCompletion.{LineCompletion}
-use Rattle.cache_line.specs.declared.line.LineCompletion.TheVariants as done
-use Rattle.block_home.specs.declared.home.HomeInput.{HomeInput}
-use Rattle.block_home.specs.declared.home.HomeInput.TheVariants as home_input
-use Rattle.control.specs.Events.{event_at_line, event_at_home}
+use Rattle.control.specs.declared.line.Line.{Line}
+use Rattle.control.specs.declared.line.LineInput.{LineInput}
+use Rattle.control.specs.declared.line.LineInput.TheVariants as line_input
+use Rattle.control.specs.declared.line.LineCompletion.{LineCompletion}
+use Rattle.control.specs.declared.line.LineCompletion.TheVariants as done
+use Rattle.control.specs.declared.home.HomeInput.{HomeInput}
+use Rattle.control.specs.declared.home.HomeInput.TheVariants as home_input
+use Rattle.control.specs.LineEvents.{event_at_line}
+use Rattle.control.specs.HomeEvents.{event_at_home}
 use Rattle.control.specs.LineEffect.{line_after, line_completes}
 use Rattle.machine.specs.declared.decision.Decision.{Decision}
 use Rattle.machine.specs.declared.decision.Decision.TheVariants.{Refused, AtLine}
 use Rattle.machine.specs.declared.decision.Origin.{Origin}
 use Rattle.machine.specs.declared.decision.Origin.TheVariants as origin
-use Rattle.both_tables.specs.Tables.{Tables}
+use Rattle.tables.specs.Tables.{Tables}
 use Rattle.machine.specs.Block.{BlockState}
 use Rattle.machine.specs.Transition.{by_line_entry, at_line, at_ask, by_home_entry, at_home, at_request, at_forward, at_response, is_idle}
 use Rattle.machine.specs.Transition.{carried_out, outcome_of, plain_outcome}
@@ -46,8 +47,7 @@ use Rattle.machine.specs.Completions as completions
 use Rattle.machine.specs.Completions.{completed_by}
 use Rattle.machine.specs.Unstuck.{IsDelivery}
 use Rattle.cores.specs.Cores.{Completes}
-use Rattle.moment.specs.Moments.{put_by}
-use Rattle.moment.specs.Moments.{answered}
+use Rattle.moment.specs.Moments.{put_by, answered}
 use Rattle.schedule.specs.Choices.{step_of}
 use Rattle.moment.specs.inner.Tracked.{pending_at}
 use Rattle.moment.proofs.Pending.{Same, Sets, settled_ask, settles-completes, AskDoes, ask-does, MessageDoes, forward-does, response-does}

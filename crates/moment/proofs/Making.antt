@@ -3,7 +3,7 @@ use Rattle.std.proofs.Common.{◌≡◌, ℕ, List, Bool, true, Some, None, slic
 use Rattle.std.specs.Prelude.{if◌then◌else◌}
 use Rattle.base.specs.declared.step.Step.{Step}
 use Rattle.base.specs.declared.step.Outcome.{Outcome}
-use Rattle.both_tables.specs.Tables.{Tables}
+use Rattle.tables.specs.Tables.{Tables}
 use Rattle.cores.specs.Cores.{Core}
 use Rattle.machine.proofs.Making.{next-told}
 use Rattle.machine.specs.declared.made.Made.{Made}

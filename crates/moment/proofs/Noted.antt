@@ -2,7 +2,7 @@
 use Rattle.std.proofs.Common.{◌≡◌, ◌<◌, ◌∙◌, inl, inr, zero, suc, All, List, [], ◌∷◌, length, true, false, sym, ap, subst, arith}
 use Rattle.base.specs.declared.step.CoreAsk.{CoreAsk}
 use Rattle.base.specs.declared.step.Step.{Step}
-use Rattle.both_tables.specs.Tables.{Tables}
+use Rattle.tables.specs.Tables.{Tables}
 use Rattle.machine.specs.Machine.{State, next}
 use Rattle.machine.specs.Completions.{Completion}
 use Rattle.cores.specs.Cores.{Core, issuing, is_free, with_core}

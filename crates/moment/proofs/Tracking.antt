@@ -8,7 +8,7 @@ use Rattle.base.specs.declared.step.CoreAsk.{CoreAsk}
 use Rattle.base.specs.declared.step.Step.{Step}
 use Rattle.control.specs.LineEffect.{opened_line}
 use Rattle.machine.specs.Block.{opened_block}
-use Rattle.both_tables.specs.Tables.{Tables}
+use Rattle.tables.specs.Tables.{Tables}
 use Rattle.machine.specs.Machine.{State, Next, next, opened}
 use Rattle.machine.specs.Completions.{Completion, completed_by}
 use Rattle.machine.specs.Unstuck.{IsDelivery}

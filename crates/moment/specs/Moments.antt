@@ -8,7 +8,7 @@ use Rattle.base.specs.declared.step.Step.{Step}
 use Rattle.base.specs.declared.step.Step.TheVariants as step
 use Rattle.base.specs.declared.step.Outcome.{Outcome}
 use Rattle.base.specs.declared.step.Outcome.TheVariants as outcome
-use Rattle.both_tables.specs.Tables.{Tables}
+use Rattle.tables.specs.Tables.{Tables}
 use Rattle.machine.specs.Machine.{State, Next, opened, next}
 use Rattle.machine.specs.Completions.{Access, load, store, Completion, completed_by}
 use Rattle.world.specs.Looks.{all_quiet}

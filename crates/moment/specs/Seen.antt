@@ -3,7 +3,7 @@ use Rattle.std.specs.Prelude.{◌≡◌, ℕ, List, [], Option, Some, MatchOptio
 use Rattle.std.specs.Option.{option_map_or}
 use Rattle.base.specs.Extent.{Extent}
 use Rattle.base.specs.declared.step.Step.{Step}
-use Rattle.both_tables.specs.Tables.{Tables}
+use Rattle.tables.specs.Tables.{Tables}
 use Rattle.machine.specs.declared.made.Made.{Made}
 use Rattle.machine.specs.Made.{made_of}
 use Rattle.scenario.specs.Alike.{Alike}
@@ -31,7 +31,7 @@ pub record IsAt (s : Seen) (m : Moment) : Type 0 where
   pub alike : Alike rest m.rest
 
 -- the k-th choice has been made: by this step, which came to this
-pub record Makes (old : Seen) (k : ℕ) (step : Step) (made : Made) (new : Seen) : Type 0 where
+pub record MakesChoice (old : Seen) (k : ℕ) (step : Step) (made : Made) (new : Seen) : Type 0 where
   pub before : Moment
   pub was : old.now ≡ Some before
   pub choice : Choice

@@ -54,7 +54,7 @@ impl<'s, A: Allocator, B: Allocator + Clone> Moment<'s, A, B> {
     ghost use Rattle.machine.specs.Machine.{opened};
     ghost use Rattle.scenario.specs.Tree.{plain};
     ghost use Rattle.moment.specs.Moments.{opened_moment};
-    ghost use Rattle.moment.specs.Seen.{IsAt, IsLike, IsWorldOf, Makes, Rests, choices_in};
+    ghost use Rattle.moment.specs.Seen.{IsAt, IsLike, IsWorldOf, MakesChoice, Rests, choices_in};
 
     /// The moment at which a run of a scenario starts, in a world that has made no step.
     pub fn open(
@@ -99,7 +99,7 @@ impl<'s, A: Allocator, B: Allocator + Clone> Moment<'s, A, B> {
     pub fn make(&mut self, alloc: B, k: u64) -> Result<(Step, Made), NoMemory>
         requires { k < length (choices_in self.old) }
         ensures like { IsLike self.old self.new }
-        ensures ok { IfOk result (λ made. Makes self.old k made.0 made.1 self.new) }
+        ensures ok { IfOk result (λ made. MakesChoice self.old k made.0 made.1 self.new) }
         ensures err { OnErr result (self.new.now ≡ None) }
     {
         let Some(pick) = self.lanes.pick(&self.world, &self.cores, k) else {

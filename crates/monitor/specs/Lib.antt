@@ -1,7 +1,4 @@
-pub use Rattle.violations.specs.Scenes
-pub use Rattle.violations.specs.Watching
-pub use Rattle.violations.specs.Violations
-pub use Rattle.machine.specs.Completions
-pub use Rattle.machine.specs.Machine
-pub use Rattle.base.specs.Steps
-pub use Rattle.world.specs.View
+pub mod Scenes
+pub mod Watching
+pub mod Violations
+pub mod Finding

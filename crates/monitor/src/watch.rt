@@ -1,8 +1,9 @@
+use crate::finding::{find, find_stale, is_suspect};
+use crate::violation::Violation;
 use base::{BlockId, NoMemory, Outcome, Step};
 use machine::Made;
 use std::alloc::Global;
 use std::marker::Model;
-use violations::{Violation, find, find_stale, is_suspect};
 use world::World;
 
 /// The value that each block ought to have, noted from the outcomes of steps alone.
@@ -25,10 +26,10 @@ impl Watch {
     ghost use Rattle.machine.specs.Machine.{State};
     ghost use Rattle.machine.specs.Made.{WasTold};
     ghost use Rattle.world.specs.View.{View};
-    ghost use Rattle.violations.specs.Scenes.{Answers, scene_in};
+    ghost use Rattle.monitor.specs.Scenes.{Answers, scene_in};
     ghost use Rattle.machine.specs.Completions.{noted};
-    ghost use Rattle.violations.specs.Watching.{AnswersHistory, HasSeen, SeesNext};
-    ghost use Rattle.violations.specs.Finding.{IsUncrowdedIf};
+    ghost use Rattle.monitor.specs.Watching.{AnswersHistory, HasSeen, SeesNext};
+    ghost use Rattle.monitor.specs.Finding.{IsUncrowdedIf};
 
     /// A watch over blocks that have their opening values, and to which nothing has happened.
     pub fn open(alloc: Global, opening: &[u64]) -> Result<Watch, NoMemory>

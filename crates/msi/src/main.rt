@@ -1,4 +1,4 @@
-//! `msi`: plays, tries out and replays a directory MSI protocol.
+//! `msi`: plays, tries out and replays a directory MSI protocol. Here are the program's words, its files and its streams.
 #![tactic(auto)]
 
 mod disk;

@@ -1,7 +1,8 @@
-//! The messages of a block and the wires on which they travel.
+//! The messages of a block and the wires on which they travel, each message with a mark beside it.
 //!
-//! A block has two networks without order, for requests and for responses, and one link to each
-//! cache that keeps its order (Primer, section 8.2; `docs/PROTOCOL.md` for the link).
+//! A block has two networks without order, for requests and for responses, and one link to each cache that keeps its
+//! order (Primer, section 8.2; `docs/PROTOCOL.md` for the link). The wires tell how many messages have no mark, and which
+//! is the k-th of these.
 #![tactic(auto)]
 
 mod links;

@@ -2,7 +2,7 @@
 use Rattle.std.proofs.Common.{◌≡◌, ◌∙◌, ◌&&◌, if◌then◌else◌, not, Bool, true, false, Option, Some, None, List, refl, ap}
 use Rattle.cache_table.specs.declared.actions.CacheAction.{CacheAction}
 use Rattle.cache_table.specs.declared.state.CacheState.{CacheState}
-use Rattle.cache_line.specs.LineEffect.{is_reader, is_modified}
+use Rattle.control.specs.LineEffect.{is_reader, is_modified}
 use Rattle.pairs.specs.declared.side.Waiting.{Waiting}
 use Rattle.pairs.specs.declared.side.Waiting.TheVariants as waiting_for
 use Rattle.pairs.specs.declared.pair.Pair.{Pair}

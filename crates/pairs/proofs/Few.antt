@@ -3,7 +3,7 @@ use Rattle.std.proofs.Common.{◌≡◌, ℕ, ◌+◌, nat_le, Bool, true, false
 use Rattle.std.proofs.lemmas.Bool.{and_parts, and_from, both_ways}
 use Rattle.std.proofs.lemmas.Bool.Decides.{nat_tests}
 use Rattle.pairs.specs.declared.link.LinkPlace.{LinkPlace}
-use Rattle.pairs.specs.declared.side.Side.{Side}
+use Rattle.pairs.specs.declared.side.PairSide.{PairSide}
 use Rattle.pairs.specs.declared.pair.Pair.{Pair}
 use Rattle.pairs.specs.Pairs.{is_few_side, is_few}
 
@@ -12,45 +12,45 @@ pub false-from : (a b : Bool) → (a ≡ true → b ≡ true) → b ≡ false �
 false-from true b h e = absurd (both_ways b e (h refl))
 false-from false b h e = refl
 
-pub few-gets : (s : Side) → is_few_side (record s { gets = s.gets + 1 }) ≡ true → is_few_side s ≡ true
+pub few-gets : (s : PairSide) → is_few_side (record s { gets = s.gets + 1 }) ≡ true → is_few_side s ≡ true
 few-gets s e = grind (arith, nat_tests)
 
-pub few-getm : (s : Side) → is_few_side (record s { getm = s.getm + 1 }) ≡ true → is_few_side s ≡ true
+pub few-getm : (s : PairSide) → is_few_side (record s { getm = s.getm + 1 }) ≡ true → is_few_side s ≡ true
 few-getm s e = grind (arith, nat_tests)
 
-pub few-puts : (s : Side) → is_few_side (record s { puts = s.puts + 1 }) ≡ true → is_few_side s ≡ true
+pub few-puts : (s : PairSide) → is_few_side (record s { puts = s.puts + 1 }) ≡ true → is_few_side s ≡ true
 few-puts s e = grind (arith, nat_tests)
 
-pub few-putm : (s : Side) → is_few_side (record s { putm = s.putm + 1 }) ≡ true → is_few_side s ≡ true
+pub few-putm : (s : PairSide) → is_few_side (record s { putm = s.putm + 1 }) ≡ true → is_few_side s ≡ true
 few-putm s e = grind (arith, nat_tests)
 
-pub few-dir_data : (s : Side) → is_few_side (record s { dir_data = s.dir_data + 1 }) ≡ true → is_few_side s ≡ true
+pub few-dir_data : (s : PairSide) → is_few_side (record s { dir_data = s.dir_data + 1 }) ≡ true → is_few_side s ≡ true
 few-dir_data s e = grind (arith, nat_tests)
 
-pub few-owner_data : (s : Side) → is_few_side (record s { owner_data = s.owner_data + 1 }) ≡ true → is_few_side s ≡ true
+pub few-owner_data : (s : PairSide) → is_few_side (record s { owner_data = s.owner_data + 1 }) ≡ true → is_few_side s ≡ true
 few-owner_data s e = grind (arith, nat_tests)
 
-pub few-excl_data : (s : Side) → is_few_side (record s { excl_data = s.excl_data + 1 }) ≡ true → is_few_side s ≡ true
+pub few-excl_data : (s : PairSide) → is_few_side (record s { excl_data = s.excl_data + 1 }) ≡ true → is_few_side s ≡ true
 few-excl_data s e = grind (arith, nat_tests)
 
-pub few-fwd_gets : (s : Side) → is_few_side (record s { fwd_gets = s.fwd_gets + 1 }) ≡ true → is_few_side s ≡ true
+pub few-fwd_gets : (s : PairSide) → is_few_side (record s { fwd_gets = s.fwd_gets + 1 }) ≡ true → is_few_side s ≡ true
 few-fwd_gets s e = grind (arith, nat_tests)
 
-pub few-fwd_getm : (s : Side) → is_few_side (record s { fwd_getm = s.fwd_getm + 1 }) ≡ true → is_few_side s ≡ true
+pub few-fwd_getm : (s : PairSide) → is_few_side (record s { fwd_getm = s.fwd_getm + 1 }) ≡ true → is_few_side s ≡ true
 few-fwd_getm s e = grind (arith, nat_tests)
 
-pub few-link : (s : Side) (x : LinkPlace) → is_few_side (record s { link = s.link ++ x ∷ [] }) ≡ true → is_few_side s ≡ true
+pub few-link : (s : PairSide) (x : LinkPlace) → is_few_side (record s { link = s.link ++ x ∷ [] }) ≡ true → is_few_side s ≡ true
 few-link s x e = let longer = length-append s.link (x ∷ []) in grind (arith, nat_tests)
 
 -- a change of one part
-pub few-first : (p : Pair) (s : Side) → (is_few_side s ≡ true → is_few_side p.first ≡ true) → is_few (record p { first = s }) ≡ true → is_few p ≡ true
+pub few-first : (p : Pair) (s : PairSide) → (is_few_side s ≡ true → is_few_side p.first ≡ true) → is_few (record p { first = s }) ≡ true → is_few p ≡ true
 few-first p s h e =
     let both = and_parts (nat_le p.shared.home_data 1 && is_few_side s) (is_few_side p.second) e in
     let parts = and_parts (nat_le p.shared.home_data 1) (is_few_side s) both.0 in
     and_from (nat_le p.shared.home_data 1 && is_few_side p.first) (is_few_side p.second)
     (and_from (nat_le p.shared.home_data 1) (is_few_side p.first) parts.0 (h parts.1)) both.1
 
-pub few-second : (p : Pair) (s : Side) → (is_few_side s ≡ true → is_few_side p.second ≡ true) → is_few (record p { second = s }) ≡ true → is_few p ≡ true
+pub few-second : (p : Pair) (s : PairSide) → (is_few_side s ≡ true → is_few_side p.second ≡ true) → is_few (record p { second = s }) ≡ true → is_few p ≡ true
 few-second p s h e =
     let both = and_parts (nat_le p.shared.home_data 1 && is_few_side p.first) (is_few_side s) e in
     and_from (nat_le p.shared.home_data 1 && is_few_side p.first) (is_few_side p.second) both.0 (h both.1)

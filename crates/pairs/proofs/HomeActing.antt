@@ -7,7 +7,7 @@ use Rattle.directory_table.specs.declared.actions.DirectoryAction.TheVariants as
 use Rattle.network.specs.declared.message.ForwardKind.{ForwardKind}
 use Rattle.network.specs.declared.message.ForwardKind.TheVariants as forward
 use Rattle.pairs.specs.declared.link.LinkPlace.{LinkPlace}
-use Rattle.pairs.specs.declared.side.Side.{Side}
+use Rattle.pairs.specs.declared.side.PairSide.{PairSide}
 use Rattle.pairs.specs.declared.pair.Pair.{Pair}
 use Rattle.pairs.specs.declared.steps.Party.{Party}
 use Rattle.pairs.specs.declared.steps.Party.TheVariants.{Nobody, First, Second, Third}
@@ -21,7 +21,7 @@ use Rattle.pairs.proofs.Few.{false-from, few-dir_data, few-excl_data, few-fwd_ge
 
 -- FEW
 
-few-named : (owner : Party) (kind : ForwardKind) (s : Side) → is_few_side (named owner kind s) ≡ true → is_few_side s ≡ true
+few-named : (owner : Party) (kind : ForwardKind) (s : PairSide) → is_few_side (named owner kind s) ≡ true → is_few_side s ≡ true
 few-named Nobody kind s e = e
 few-named owner forward.FwdGetS s e = few-fwd_gets s e
 few-named owner forward.FwdGetM s e = few-fwd_getm s e
@@ -80,7 +80,7 @@ pub few-home_acted : (asked : Bool) (value : Option Bool) (a : DirectoryAction) 
     is_few (home_acted asked value a s).pair ≡ true → is_few s.pair ≡ true
 few-home_acted true value action.DataReq s e = few-first s.pair (dir_data_sent s.pair.shared.fresh_memory s.pair.first) (few-dir_data s.pair.first) e
 few-home_acted true value action.DataAcks s e =
-    let first : Side = dir_data_sent s.pair.shared.fresh_memory s.pair.first in
+    let first : PairSide = dir_data_sent s.pair.shared.fresh_memory s.pair.first in
     few-first s.pair first (few-dir_data s.pair.first) (few-announces (record s { pair = record s.pair { first = first } }) e)
 few-home_acted true value action.DataExcl s e = few-first s.pair (excl_data_sent s.pair.shared.fresh_memory s.pair.first) (few-excl_data s.pair.first) e
 few-home_acted true value action.InvSharers s e = few-invited s e
@@ -139,14 +139,14 @@ marked-owner_linked First kind p h = marked-first_linked kind p h
 marked-owner_linked Second kind p h = marked-second_linked kind p h
 marked-owner_linked Third kind p h = h
 
-link-named : (owner : Party) (kind : ForwardKind) (s : Side) → (named owner kind s).link ≡ s.link
+link-named : (owner : Party) (kind : ForwardKind) (s : PairSide) → (named owner kind s).link ≡ s.link
 link-named Nobody kind s = refl
 link-named owner forward.FwdGetS s = refl
 link-named owner forward.FwdGetM s = refl
 link-named owner other s = refl
 
 -- a change of the first cache that leaves its link alone
-marked-first : (p : Pair) (s : Side) → s.link ≡ p.first.link → IsMarked p → IsMarked (record p { first = s })
+marked-first : (p : Pair) (s : PairSide) → s.link ≡ p.first.link → IsMarked p → IsMarked (record p { first = s })
 marked-first p s e h = record { first = h.first ∙ ap length (sym e); second = h.second }
 
 marked-forwarded : (kind : ForwardKind) (s : Scene) → IsMarked s.pair → IsMarked (forwarded kind s).pair

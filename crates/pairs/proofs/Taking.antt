@@ -4,7 +4,7 @@ use Rattle.std.proofs.lemmas.Bool.Decides.{nat_tests}
 use Rattle.network.specs.declared.message.ForwardKind.{ForwardKind}
 use Rattle.network.specs.declared.message.ForwardKind.TheVariants.{FwdGetS, FwdGetM, Inv, PutAck}
 use Rattle.pairs.specs.declared.link.LinkPlace.{LinkPlace}
-use Rattle.pairs.specs.declared.side.Side.{Side}
+use Rattle.pairs.specs.declared.side.PairSide.{PairSide}
 use Rattle.pairs.specs.declared.pair.Pair.{Pair}
 use Rattle.pairs.specs.declared.steps.Party.{Party}
 use Rattle.pairs.specs.declared.steps.Party.TheVariants.{Nobody, First, Second, Third}
@@ -16,31 +16,31 @@ use Rattle.pairs.proofs.Few.{few-first, few-second}
 use Rattle.pairs.proofs.Parting.{length-behind}
 
 -- a pair is few with another side that is few
-pub few-with_first : (p : Pair) (s : Side) → (is_few_side p.first ≡ true → is_few_side s ≡ true) → is_few p ≡ true → is_few (record p { first = s }) ≡ true
+pub few-with_first : (p : Pair) (s : PairSide) → (is_few_side p.first ≡ true → is_few_side s ≡ true) → is_few p ≡ true → is_few (record p { first = s }) ≡ true
 few-with_first p s h e = few-first (record p { first = s }) p.first h e
 
-few-with_second : (p : Pair) (s : Side) → (is_few_side p.second ≡ true → is_few_side s ≡ true) → is_few p ≡ true → is_few (record p { second = s }) ≡ true
+few-with_second : (p : Pair) (s : PairSide) → (is_few_side p.second ≡ true → is_few_side s ≡ true) → is_few p ≡ true → is_few (record p { second = s }) ≡ true
 few-with_second p s h e = few-second (record p { second = s }) p.second h e
 
-few-shorter : (s : Side) (xs : List LinkPlace) → length xs ≤ length s.link → is_few_side s ≡ true → is_few_side (record s { link = xs }) ≡ true
+few-shorter : (s : PairSide) (xs : List LinkPlace) → length xs ≤ length s.link → is_few_side s ≡ true → is_few_side (record s { link = xs }) ≡ true
 few-shorter s xs shorter e = grind (arith, nat_tests)
 
-pub few-less_dir_data : (s : Side) → is_few_side s ≡ true → is_few_side (record s { dir_data = s.dir_data - 1 }) ≡ true
+pub few-less_dir_data : (s : PairSide) → is_few_side s ≡ true → is_few_side (record s { dir_data = s.dir_data - 1 }) ≡ true
 few-less_dir_data s e = grind (arith, nat_tests)
 
-pub few-less_owner_data : (s : Side) → is_few_side s ≡ true → is_few_side (record s { owner_data = s.owner_data - 1 }) ≡ true
+pub few-less_owner_data : (s : PairSide) → is_few_side s ≡ true → is_few_side (record s { owner_data = s.owner_data - 1 }) ≡ true
 few-less_owner_data s e = grind (arith, nat_tests)
 
-pub few-less_excl_data : (s : Side) → is_few_side s ≡ true → is_few_side (record s { excl_data = s.excl_data - 1 }) ≡ true
+pub few-less_excl_data : (s : PairSide) → is_few_side s ≡ true → is_few_side (record s { excl_data = s.excl_data - 1 }) ≡ true
 few-less_excl_data s e = grind (arith, nat_tests)
 
-few-less_fwd_gets : (s : Side) → is_few_side s ≡ true → is_few_side (record s { fwd_gets = s.fwd_gets - 1 }) ≡ true
+few-less_fwd_gets : (s : PairSide) → is_few_side s ≡ true → is_few_side (record s { fwd_gets = s.fwd_gets - 1 }) ≡ true
 few-less_fwd_gets s e = grind (arith, nat_tests)
 
-few-less_fwd_getm : (s : Side) → is_few_side s ≡ true → is_few_side (record s { fwd_getm = s.fwd_getm - 1 }) ≡ true
+few-less_fwd_getm : (s : PairSide) → is_few_side s ≡ true → is_few_side (record s { fwd_getm = s.fwd_getm - 1 }) ≡ true
 few-less_fwd_getm s e = grind (arith, nat_tests)
 
-few-unnamed_side : (kind : ForwardKind) (s : Side) → is_few_side s ≡ true → is_few_side (unnamed_side kind s) ≡ true
+few-unnamed_side : (kind : ForwardKind) (s : PairSide) → is_few_side s ≡ true → is_few_side (unnamed_side kind s) ≡ true
 few-unnamed_side FwdGetS s e = few-less_fwd_gets s e
 few-unnamed_side FwdGetM s e = few-less_fwd_getm s e
 few-unnamed_side Inv s e = e
@@ -59,7 +59,7 @@ few-headless to kind p x xs marks head rest few =
     let shorter : length xs ≤ length p.first.link = omega (arith, length-behind p.first.link x head, ap length rest) in
     few-unnamed to kind (headless xs marks p) (few-with_first p (record p.first { link = xs }) (few-shorter p.first xs shorter) few)
 
-link-unnamed_side : (kind : ForwardKind) (s : Side) → (unnamed_side kind s).link ≡ s.link
+link-unnamed_side : (kind : ForwardKind) (s : PairSide) → (unnamed_side kind s).link ≡ s.link
 link-unnamed_side FwdGetS s = refl
 link-unnamed_side FwdGetM s = refl
 link-unnamed_side Inv s = refl

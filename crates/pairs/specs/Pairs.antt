@@ -8,7 +8,7 @@ use Rattle.pairs.specs.declared.link.LinkPlace.{LinkPlace}
 use Rattle.pairs.specs.declared.side.Owned.{Owned}
 use Rattle.pairs.specs.declared.side.Owned.TheVariants.{ByNobody, ByItself, ByAnother}
 use Rattle.pairs.specs.declared.side.Lag.TheVariants.{Level}
-use Rattle.pairs.specs.declared.side.Side.{Side}
+use Rattle.pairs.specs.declared.side.PairSide.{PairSide}
 use Rattle.pairs.specs.declared.pair.Shared.{Shared}
 use Rattle.pairs.specs.declared.pair.Pair.{Pair}
 
@@ -17,7 +17,7 @@ abbrev pub swapped : Pair → Pair
 swapped p = record { shared = p.shared; first = p.second; second = p.first; first_names = p.second_names; second_names = p.first_names }
 
 -- a cache that nothing has happened to
-abbrev pub opened_side : Side
+abbrev pub opened_side : PairSide
 opened_side = record {
   state = I;
   waits = None;
@@ -53,11 +53,11 @@ opened_pair = record {
 }
 
 -- how many Data are on their way to a cache
-abbrev pub data_to : Side → ℕ
+abbrev pub data_to : PairSide → ℕ
 data_to s = s.dir_data + s.owner_data + s.excl_data
 
 -- none of a kind is fresh in whatever sense: so fresh is said of what isn't there
-abbrev pub trimmed : Side → Side
+abbrev pub trimmed : PairSide → PairSide
 trimmed s = record s { fresh_putm = s.fresh_putm || (s.putm == 0); fresh_data = s.fresh_data || (data_to s == 0) }
 
 abbrev pub trimmed_home : Shared → Shared
@@ -99,7 +99,7 @@ own_marked kind [] = 0
 own_marked kind (x ∷ xs) = (if x.own && same_kind x.kind kind then 1 else 0) + own_marked kind xs
 
 -- what a cache's link and the other's name of it is counted in what names it
-abbrev pub names_fit : Side → Side → List Bool → Bool
+abbrev pub names_fit : PairSide → PairSide → List Bool → Bool
 names_fit s other marks =
     nat_le (own_marked FwdGetS s.link + marked FwdGetS other.link marks) s.fwd_gets
     && nat_le (own_marked FwdGetM s.link + marked FwdGetM other.link marks) s.fwd_getm
@@ -114,7 +114,7 @@ fits p =
     && names_fit p.second p.first p.first_names
 
 -- few enough of each kind: two that ask for the block, two that hand such an ask on, two on the link, and one of each other
-abbrev pub is_few_side : Side → Bool
+abbrev pub is_few_side : PairSide → Bool
 is_few_side s =
     nat_le s.gets 2 && nat_le s.getm 2 && nat_le s.puts 1 && nat_le s.putm 1
     && nat_le s.dir_data 1 && nat_le s.owner_data 1 && nat_le s.excl_data 1

@@ -1,6 +1,6 @@
 -- What a step of the first of two caches makes of what both see.
 use Rattle.std.specs.Prelude.{ℕ, ◌+◌, ◌-◌, List, [], ◌∷◌, ◌++◌, Option, Some, None, Bool, true, false, not, ◌&&◌, ◌||◌, if◌then◌else◌, ◌==◌}
-use Rattle.base.specs.declared.controller.entry.Entry.TheVariants.{Blank, Stall, Act}
+use Rattle.base.specs.declared.controller.entry.CellEntry.TheVariants.{Blank, Stall, Act}
 use Rattle.network.specs.declared.message.ForwardKind.{ForwardKind}
 use Rattle.network.specs.declared.message.ForwardKind.TheVariants as forward
 use Rattle.cache_table.specs.declared.state.CacheState.{CacheState}
@@ -18,9 +18,9 @@ use Rattle.directory_table.specs.declared.actions.DirectoryAction.{DirectoryActi
 use Rattle.directory_table.specs.declared.actions.DirectoryAction.TheVariants as action
 use Rattle.directory_table.specs.Table as directory_table
 use Rattle.directory_table.specs.Table.{DirectoryEntry}
-use Rattle.cache_line.specs.Events.{forward_event}
-use Rattle.cache_line.specs.LineEffect.{is_reader, is_modified}
-use Rattle.both_tables.specs.Tables.{Tables}
+use Rattle.control.specs.LineEvents.{forward_event}
+use Rattle.control.specs.LineEffect.{is_reader, is_modified}
+use Rattle.tables.specs.Tables.{Tables}
 use Rattle.pairs.specs.declared.link.LinkPlace.{LinkPlace}
 use Rattle.pairs.specs.declared.side.Waiting.{Waiting}
 use Rattle.pairs.specs.declared.side.Waiting.TheVariants as waiting_for
@@ -28,7 +28,7 @@ use Rattle.pairs.specs.declared.side.Owned.{Owned}
 use Rattle.pairs.specs.declared.side.Owned.TheVariants.{ByNobody, ByItself, ByAnother}
 use Rattle.pairs.specs.declared.side.Lag.{Lag}
 use Rattle.pairs.specs.declared.side.Lag.TheVariants.{Behind, Level, Ahead}
-use Rattle.pairs.specs.declared.side.Side.{Side}
+use Rattle.pairs.specs.declared.side.PairSide.{PairSide}
 use Rattle.pairs.specs.declared.pair.Shared.{Shared}
 use Rattle.pairs.specs.declared.pair.Pair.{Pair}
 use Rattle.pairs.specs.declared.steps.Party.{Party}
@@ -64,16 +64,16 @@ is_ahead other = false
 -- WHAT THE ACTIONS OF A CELL DO
 
 -- Data on their way to a cache, with a fresh value or not
-abbrev pub dir_data_sent : Bool → Side → Side
+abbrev pub dir_data_sent : Bool → PairSide → PairSide
 dir_data_sent fresh s = record s { dir_data = s.dir_data + 1; fresh_data = s.fresh_data && fresh }
 
-abbrev pub owner_data_sent : Bool → Side → Side
+abbrev pub owner_data_sent : Bool → PairSide → PairSide
 owner_data_sent fresh s = record s { owner_data = s.owner_data + 1; fresh_data = s.fresh_data && fresh }
 
-abbrev pub excl_data_sent : Bool → Side → Side
+abbrev pub excl_data_sent : Bool → PairSide → PairSide
 excl_data_sent fresh s = record s { excl_data = s.excl_data + 1; fresh_data = s.fresh_data && fresh }
 
-abbrev pub putm_sent : Bool → Side → Side
+abbrev pub putm_sent : Bool → PairSide → PairSide
 putm_sent fresh s = record s { putm = s.putm + 1; fresh_putm = s.fresh_putm && fresh }
 
 abbrev pub home_data_sent : Bool → Shared → Shared
@@ -177,7 +177,7 @@ owner_linked Second kind p = second_linked kind p
 owner_linked Third kind p = p
 
 -- one more forward names the first cache, if there is an owner
-abbrev pub named : Party → ForwardKind → Side → Side
+abbrev pub named : Party → ForwardKind → PairSide → PairSide
 named Nobody kind s = s
 named owner forward.FwdGetS s = record s { fwd_gets = s.fwd_gets + 1 }
 named owner forward.FwdGetM s = record s { fwd_getm = s.fwd_getm + 1 }
@@ -234,7 +234,7 @@ home_acts asked value (a ∷ actions) s = home_acts asked value actions (home_ac
 -- SETTLING
 
 -- where no value is that of the last store any more
-abbrev pub stale : Side → Side
+abbrev pub stale : PairSide → PairSide
 stale s = trimmed (record s { fresh = false; fresh_putm = false; fresh_data = false })
 
 -- after the first cache stored: its line has the last store's value, and nothing else is known to
@@ -373,7 +373,7 @@ besides First = Nobody
 besides other = other
 
 -- one forward less names a cache
-abbrev pub unnamed_side : ForwardKind → Side → Side
+abbrev pub unnamed_side : ForwardKind → PairSide → PairSide
 unnamed_side forward.FwdGetS s = record s { fwd_gets = s.fwd_gets - 1 }
 unnamed_side forward.FwdGetM s = record s { fwd_getm = s.fwd_getm - 1 }
 unnamed_side other s = s
@@ -395,7 +395,7 @@ head_seen tables guess (x ∷ xs) (mark ∷ marks) p =
 head_seen tables guess places marks p = Unmoved
 
 -- the value of a response is the line's from now on
-abbrev pub with_data : Side → Side
+abbrev pub with_data : PairSide → PairSide
 with_data s = trimmed (record s { fresh = s.fresh_data })
 
 -- where some number isn't 0
@@ -403,11 +403,11 @@ abbrev pub where_some : ℕ → Sight → Sight
 where_some n x = if n == 0 then Unmoved else x
 
 -- a request of the first comes to the home, from a pair without it
-abbrev pub request_seen : Tables → Bool → Option Bool → DirectoryEvent → Pair → Side → Sight
+abbrev pub request_seen : Tables → Bool → Option Bool → DirectoryEvent → Pair → PairSide → Sight
 request_seen tables third_shares value e p s = at_home tables third_shares true value e (record p { first = trimmed s })
 
 -- a response to the first comes to its line
-abbrev pub response_seen : Tables → Rule → Bool → CacheEvent → Pair → Side → Sight
+abbrev pub response_seen : Tables → Rule → Bool → CacheEvent → Pair → PairSide → Sight
 response_seen tables rule guess e p s = at_line tables rule guess Nobody Nobody e (record p { first = s })
 
 -- how many acks a line awaits to whom all are announced: none or more, or fewer if it was sent too many, where that is known
@@ -415,7 +415,7 @@ abbrev pub acks_awaited : Lag → Bool → Option Lag
 acks_awaited lag owed = shifted (if owed then Ahead else Level) lag
 
 -- Data from the home comes to the line of the first, which then awaits this many
-abbrev pub dir_data_seen : Tables → Bool → Option Lag → Pair → Side → Sight
+abbrev pub dir_data_seen : Tables → Bool → Option Lag → Pair → PairSide → Sight
 dir_data_seen tables guess None p s = Lost
 dir_data_seen tables guess (Some lag) p s =
     response_seen tables GetsDirData guess (if is_level lag then event.DataDirZero else event.DataDirMore) p
@@ -428,7 +428,7 @@ counts_fit Ahead low last owed = not low && not last
 counts_fit Behind low last owed = low || owed
 
 -- an Inv-Ack may be the last, and leave something owed or not
-abbrev pub ack_fits : Side → Bool → Bool → Bool
+abbrev pub ack_fits : PairSide → Bool → Bool → Bool
 ack_fits s last owed = s.owed && not (s.low && last) && (not (s.dir_data == 0) || counts_fit s.lag s.low last owed)
 
 abbrev pub is_owner : Owned → Bool

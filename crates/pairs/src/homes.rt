@@ -9,10 +9,10 @@ use crate::pair::Pair;
 use crate::settling::look_at;
 use crate::side::Owned;
 use crate::steps::{Debt, Party, Scene, Sight};
-use base::controller::Entry;
-use both_tables::Tables;
+use base::controller::CellEntry;
 use directory_table::{DirectoryAction, DirectoryEntry, DirectoryEvent, DirectoryState};
 use network::ForwardKind;
+use tables::Tables;
 
 /// Does an action of the home for a request of the first cache, or for Data if nobody asked. Either brings a fresh
 /// value, another one, or none.
@@ -114,7 +114,7 @@ fn see_act(
 ) -> Sight
     requires few { is_few scene.now.pair ≡ true }
     requires marked { IsMarked scene.now.pair }
-    ensures seen { result ≡ by_home asked value (Entry.Act next actions.now) scene.now }
+    ensures seen { result ≡ by_home asked value (CellEntry.Act next actions.now) scene.now }
     ensures followed { IsFollowed result }
 {
     let Some(after) = acted(asked, value, actions, scene) else {
@@ -136,9 +136,9 @@ fn see_entry(asked: bool, value: Option<bool>, entry: &DirectoryEntry, scene: &S
     ensures followed { IsFollowed result }
 {
     match entry {
-        Entry::Stall => Sight::Unmoved,
-        Entry::Blank => Sight::Spoilt(Party::Nobody),
-        Entry::Act { next, actions } => see_act(asked, value, *next, actions.as_slice(), scene),
+        CellEntry::Stall => Sight::Unmoved,
+        CellEntry::Blank => Sight::Spoilt(Party::Nobody),
+        CellEntry::Act { next, actions } => see_act(asked, value, *next, actions.as_slice(), scene),
     }
 }
 

@@ -1,5 +1,5 @@
-//! A block as two of its caches see it, and what a step of one of them makes of that: so whatever tables do is seen on
-//! pairs of caches, however many there are.
+//! A block as two of its caches and its home see it, and what a step makes of that under any tables. So whatever tables
+//! do is seen on pairs of caches, however many there are.
 #![tactic(auto)]
 
 mod homes;
@@ -17,5 +17,5 @@ pub use link::{Link, LinkPlace};
 pub use marks::Marks;
 pub use pair::{Pair, Shared};
 pub use seeing::{home_data_seen, sight};
-pub use side::{Lag, Owned, Side, Waiting};
+pub use side::{Lag, Owned, PairSide, Waiting};
 pub use steps::{Debt, Party, Rule, Scene, Sight, each_rule_is_listed};

@@ -8,9 +8,9 @@ use crate::pair::Pair;
 use crate::settling::{complete, look_at, returns_old};
 use crate::side::Lag;
 use crate::steps::{Party, Rule, Sight};
-use base::controller::Entry;
-use both_tables::Tables;
+use base::controller::CellEntry;
 use cache_table::{CacheAction, CacheEntry, CacheEvent, CacheState};
+use tables::Tables;
 
 /// Does an action of the first cache's line for this requestor. It is told whether the line's value is fresh.
 fn act(to: Party, fresh: bool, action: CacheAction, pair: &mut Pair)
@@ -142,9 +142,9 @@ fn see_entry(
     ensures followed { IsFollowed result }
 {
     match entry {
-        Entry::Stall => Sight::Unmoved,
-        Entry::Blank => Sight::Spoilt(concerned),
-        Entry::Act { next, actions } => {
+        CellEntry::Stall => Sight::Unmoved,
+        CellEntry::Blank => Sight::Spoilt(concerned),
+        CellEntry::Act { next, actions } => {
             let actions = actions.as_slice();
             match answered(guess, to, answer(event, actions), pair) {
                 Some(answered) => see_answered(rule, to, concerned, *next, actions, &answered),

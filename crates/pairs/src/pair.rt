@@ -1,6 +1,6 @@
 use crate::link::LinkPlace;
 use crate::marks::Marks;
-use crate::side::Side;
+use crate::side::PairSide;
 use crate::steps::Party;
 use directory_table::DirectoryState;
 use network::ForwardKind;
@@ -21,8 +21,8 @@ pub struct Shared {
 #[derive(Clone, Copy, PartialEq, Eq, Debug)]
 pub struct Pair {
     pub shared: Shared,
-    pub first: Side,
-    pub second: Side,
+    pub first: PairSide,
+    pub second: PairSide,
     /// Which places of the first one's link name the second.
     pub first_names: Marks,
     /// Which places of the second one's link name the first.
@@ -68,8 +68,8 @@ impl Pair {
                 home_data: 0,
                 fresh_home_data: true,
             },
-            first: Side::opened(),
-            second: Side::opened(),
+            first: PairSide::opened(),
+            second: PairSide::opened(),
             first_names: Marks::empty(),
             second_names: Marks::empty(),
         }

@@ -5,7 +5,7 @@ ghost use Rattle.pairs.specs.inner.Alike.{AreNamedAlike, AskAlike, GetAlike, Hav
 
 use crate::link::LinkPlace;
 use crate::pair::{Pair, Shared};
-use crate::side::{Side, Waiting};
+use crate::side::{PairSide, Waiting};
 use crate::steps::Rule;
 
 impl LinkPlace {
@@ -40,9 +40,9 @@ fn wait_alike(one: Option<Waiting>, other: Option<Waiting>) -> bool
     }
 }
 
-impl Side {
+impl PairSide {
     /// Whether both have the same requests on their way.
-    fn asks_alike(&self, other: &Side) -> bool
+    fn asks_alike(&self, other: &PairSide) -> bool
         ensures { IsTrue result ↔ AskAlike self.now other.now }
     {
         (self.gets == other.gets)
@@ -53,7 +53,7 @@ impl Side {
     }
 
     /// Whether both have the same Data on their way to them.
-    fn gets_alike(&self, other: &Side) -> bool
+    fn gets_alike(&self, other: &PairSide) -> bool
         ensures { IsTrue result ↔ GetAlike self.now other.now }
     {
         (self.dir_data == other.dir_data)
@@ -63,7 +63,7 @@ impl Side {
     }
 
     /// Whether both are named alike, and have the same link.
-    fn is_named_alike(&self, other: &Side) -> bool
+    fn is_named_alike(&self, other: &PairSide) -> bool
         ensures { IsTrue result ↔ AreNamedAlike self.now other.now }
     {
         (self.fwd_gets == other.fwd_gets)
@@ -72,7 +72,7 @@ impl Side {
     }
 
     /// Whether both have the same line.
-    fn has_line_alike(&self, other: &Side) -> bool
+    fn has_line_alike(&self, other: &PairSide) -> bool
         ensures { IsTrue result ↔ HaveLinesAlike self.now other.now }
     {
         (self.state == other.state)
@@ -82,7 +82,7 @@ impl Side {
     }
 
     /// Whether both are owed and await, share and own alike.
-    fn stands_alike(&self, other: &Side) -> bool
+    fn stands_alike(&self, other: &PairSide) -> bool
         ensures { IsTrue result ↔ StandAlike self.now other.now }
     {
         (self.owed == other.owed)
@@ -93,7 +93,7 @@ impl Side {
     }
 
     /// Whether both are the same.
-    pub fn is_same(&self, other: &Side) -> bool
+    pub fn is_same(&self, other: &PairSide) -> bool
         ensures { IsTrue result ↔ (self.now ≡ other.now) }
     {
         self.has_line_alike(other)

@@ -1,5 +1,5 @@
 ghost use Rattle.std.specs.Prelude.{◌≡◌, true};
-ghost use Rattle.cache_line.specs.Events.{forward_event};
+ghost use Rattle.control.specs.LineEvents.{forward_event};
 ghost use Rattle.pairs.specs.Pairs.{is_few};
 ghost use Rattle.pairs.specs.Marking.{IsFollowed, IsMarked};
 ghost use Rattle.pairs.specs.Sights.{ack_fits, at_line, counts_fit, besides, home_data_seen, requestor, sight, unnamed};
@@ -8,12 +8,12 @@ use crate::homes::see_home;
 use crate::lines::see_line;
 use crate::link::LinkPlace;
 use crate::pair::Pair;
-use crate::side::{Lag, Owned, Side};
+use crate::side::{Lag, Owned, PairSide};
 use crate::steps::{Party, Rule, Sight};
-use both_tables::Tables;
 use cache_table::{CacheEvent, CacheState};
 use directory_table::DirectoryEvent;
 use network::ForwardKind;
+use tables::Tables;
 
 /// What is seen where an event that names no other cache comes to the first's line, from a pair that it was taken from.
 fn see_event(tables: &Tables, rule: Rule, guess: bool, event: CacheEvent, pair: &Pair) -> Sight
@@ -265,7 +265,7 @@ fn see_excl_data(tables: &Tables, guess: bool, pair: &Pair) -> Sight
 
 /// Whether an Inv-Ack may be the last one or not, and leave something owed or not, where no Data from the home is on its way: a
 /// line awaits what is owed to it, more or fewer.
-fn counts_fit(side: &Side, last: bool, owed: bool) -> bool
+fn counts_fit(side: &PairSide, last: bool, owed: bool) -> bool
     ensures { result ≡ counts_fit side.now.lag side.now.low last owed }
 {
     match side.lag {
@@ -276,7 +276,7 @@ fn counts_fit(side: &Side, last: bool, owed: bool) -> bool
 }
 
 /// Whether an Inv-Ack may be the last one or not, and leave something owed or not.
-fn may_get_ack(side: &Side, last: bool, owed: bool) -> bool
+fn may_get_ack(side: &PairSide, last: bool, owed: bool) -> bool
     ensures { result ≡ ack_fits side.now last owed }
 {
     side.owed && !(side.low && last) && (side.dir_data != 0 || counts_fit(side, last, owed))

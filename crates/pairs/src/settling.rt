@@ -4,10 +4,10 @@ ghost use Rattle.pairs.specs.Sights.{looked_at, stored};
 ghost use Rattle.pairs.specs.inner.Following.{done, loads, wait_done};
 
 use crate::pair::Pair;
-use crate::side::{Side, Waiting};
+use crate::side::{PairSide, Waiting};
 use crate::steps::{Party, Rule, Sight};
-use cache_line::may_read;
 use cache_table::CacheState;
+use control::may_read;
 
 /// The first cache stores: its line has the last store's value, and nothing else is known to.
 fn store(pair: &mut Pair)
@@ -36,7 +36,7 @@ fn completes_load(rule: Rule, waits: Option<Waiting>, next: CacheState) -> bool
 }
 
 /// Whether a load completes by this rule, in the line's new state, and returns what may not be the last store's value.
-pub(crate) fn returns_old(rule: Rule, next: CacheState, side: &Side) -> bool
+pub(crate) fn returns_old(rule: Rule, next: CacheState, side: &PairSide) -> bool
     ensures { result ≡ (loads rule side.now.waits next && not side.now.fresh) }
 {
     completes_load(rule, side.waits, next) && !side.fresh

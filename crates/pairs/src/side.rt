@@ -37,7 +37,7 @@ pub enum Lag {
 /// What concerns one cache. What is fresh is known to be the value of the block's last store; of what isn't nothing is
 /// known. Where there is none of a kind, it counts as fresh.
 #[derive(Clone, Copy, PartialEq, Eq, Debug)]
-pub struct Side {
+pub struct PairSide {
     pub state: CacheState,
     pub waits: Option<Waiting>,
     /// Whether the line's value is fresh.
@@ -124,17 +124,17 @@ impl Lag {
     }
 }
 
-impl Side {
+impl PairSide {
     ghost use Rattle.std.specs.Prelude.{◌≡◌, ◌≤◌, ◌==◌};
     ghost use Rattle.pairs.specs.Pairs.{data_to, is_few_side, names_fit, opened_side, trimmed};
     ghost use Rattle.pairs.specs.Sights.{dir_data_sent, excl_data_sent, named, owner_data_sent, putm_sent};
     ghost use Rattle.pairs.specs.Sights.{stale, unnamed_side, with_data};
 
     /// A cache that nothing has happened to.
-    pub(crate) fn opened() -> Side
+    pub(crate) fn opened() -> PairSide
         ensures { result ≡ opened_side }
     {
-        Side {
+        PairSide {
             state: CacheState::I,
             waits: None,
             fresh: false,
@@ -271,7 +271,7 @@ impl Side {
     }
 
     /// Whether what names the cache, on its own link and where the other's link is marked, is counted in it.
-    pub(crate) fn names_fit(&self, other: &Side, marks: &Marks) -> bool
+    pub(crate) fn names_fit(&self, other: &PairSide, marks: &Marks) -> bool
         ensures { result ≡ names_fit self.now other.now marks.now }
     {
         let sharing = self.link.own_count(ForwardKind::FwdGetS)

@@ -2,16 +2,16 @@
 use Rattle.std.proofs.Common.{◌≡◌, ◌+◌, ◌-◌, ◌<◌, ℕ, zero, suc, List, [], ◌∷◌, ◌++◌, Some, None, length, refl, ap, sym, subst, ◌∙◌}
 use Rattle.std.proofs.Common.{arith, length-append}
 use Rattle.std.specs.Prelude.{Option, Ok}
-use Rattle.base.specs.Spelling.{words, joined}
+use Rattle.base.specs.Words.{words, joined}
 use Rattle.record_lines.specs.declared.due.Due.{Due}
 use Rattle.record_lines.specs.declared.due.Due.TheVariants.{EntryLine}
-use Rattle.record_lines.specs.declared.due.Form.{Form}
+use Rattle.record_lines.specs.declared.due.TextHead.{TextHead}
 use Rattle.record.specs.declared.draft.Draft.{Draft}
 use Rattle.record.specs.declared.reader.Reader.{Reader}
 use Rattle.record_lines.specs.declared.entry.Entry.{Entry}
 use Rattle.record_lines.specs.declared.told.Told.{Told}
 use Rattle.record_lines.specs.Grammar.{entries_due, FitsEntry}
-use Rattle.record.specs.Text.{entry_words, told_words}
+use Rattle.record_lines.specs.Text.{entry_words, told_words}
 use Rattle.record.specs.View.{owner_list, with_owned, RecordingView}
 use Rattle.record.specs.inner.Drafts.{lines_left, recorded, Kept, HasRead, HasRoom, HasTakenLine}
 use Rattle.record.specs.inner.Readers.{IsReady, StillReads}
@@ -35,7 +35,7 @@ with-line reader line behind = record {
   entries = reader.entries;
 }
 
-entry-read : {N : Type 0} (tells : N → Option RecordingView → Type 0) (f : Form) (left : ℕ) (due next : Due) (draft : Draft) (old new : N) (e : Entry)
+entry-read : {N : Type 0} (tells : N → Option RecordingView → Type 0) (f : TextHead) (left : ℕ) (due next : Due) (draft : Draft) (old new : N) (e : Entry)
     (r : Kept) → due ≡ EntryLine f left → f.seats ≡ 0 → FitsEntry e → next ≡ entries_due f (left - 1) →
     ((v : RecordingView) → tells old (Some v) → tells new (Some (with_owned v e None))) → HasRead tells due draft old r →
     HasTakenLine tells due r (words (joined (entry_words e))) next draft new
@@ -50,7 +50,7 @@ entry-read tells f left due next draft old new e r at none fits behind told h =
     }) h
 
 -- whatever has been read, an entry more has been read
-pub one-more : {N : Type 0} (tells : N → Option RecordingView → Type 0) (f : Form) (left : ℕ) (old new : Reader N) (e : Entry) → old.due ≡ EntryLine f left →
+pub one-more : {N : Type 0} (tells : N → Option RecordingView → Type 0) (f : TextHead) (left : ℕ) (old new : Reader N) (e : Entry) → old.due ≡ EntryLine f left →
     f.seats ≡ 0 → FitsEntry e → IsEntryTakenOff e old.lines new.lines → new.due ≡ entries_due f (left - 1) → new.draft ≡ old.draft →
     ((v : RecordingView) → tells old.entries (Some v) → tells new.entries (Some (with_owned v e None))) → StillReads tells old new
 one-more tells f left old new e at none fits off behind same told = λ before last h.
@@ -64,7 +64,7 @@ one-more tells f left old new e at none fits off behind same told = λ before la
     (record { line = off.line; ahead = refl; number = off.number })
 
 -- and fewer lines are left
-pub fewer-behind : (f : Form) (left : ℕ) (due next : Due) (e : Entry) → due ≡ EntryLine f left → f.seats ≡ 0 → FitsEntry e → next ≡ entries_due f (left - 1) →
+pub fewer-behind : (f : TextHead) (left : ℕ) (due next : Due) (e : Entry) → due ≡ EntryLine f left → f.seats ≡ 0 → FitsEntry e → next ≡ entries_due f (left - 1) →
     lines_left next < lines_left due
 fewer-behind f left due next e at none fits behind =
     subst (λ d. lines_left next < lines_left d) (sym at)
@@ -85,7 +85,7 @@ still-ready has_room old new e h off less same room =
     }
 
 -- where so many entries are still due, the reader from whose lines some of them were taken already
-abbrev pub with-due : {N : Type 0} → Form → ℕ → Reader N → Reader N
+abbrev pub with-due : {N : Type 0} → TextHead → ℕ → Reader N → Reader N
 with-due f left reader = record {
   lines = reader.lines;
   due = entries_due f left;
@@ -94,12 +94,12 @@ with-due f left reader = record {
 }
 
 -- where any are left, an entry is due
-pub still-due : (f : Form) (left : ℕ) → 0 < left → entries_due f left ≡ EntryLine f left
+pub still-due : (f : TextHead) (left : ℕ) → 0 < left → entries_due f left ≡ EntryLine f left
 still-due f zero some = absurd (omega (arith, some))
 still-due f (suc n) some = refl
 
 -- and as long as none was taken it is the reader itself
-pub none-taken : {N : Type 0} (f : Form) (left : ℕ) (reader : Reader N) → reader.due ≡ EntryLine f left → 0 < left → reader ≡ with-due f left reader
+pub none-taken : {N : Type 0} (f : TextHead) (left : ℕ) (reader : Reader N) → reader.due ≡ EntryLine f left → 0 < left → reader ≡ with-due f left reader
 none-taken f left reader at some =
     ap (λ (d : Due). record {
       lines = reader.lines;
@@ -109,7 +109,7 @@ none-taken f left reader at some =
     }) (at ∙ sym (still-due f left some))
 
 -- where an entry is due, one is left, and there is room for it
-pub one-left : {N : Type 0} (tells : N → Option RecordingView → Type 0) (f : Form) (left : ℕ) (due : Due) (draft : Draft) (entries : N) (r : Kept) →
+pub one-left : {N : Type 0} (tells : N → Option RecordingView → Type 0) (f : TextHead) (left : ℕ) (due : Due) (draft : Draft) (entries : N) (r : Kept) →
     due ≡ EntryLine f left → HasRead tells due draft entries r → (0 < left) × tells entries (Some (recorded r)) × (length r.entries < 1000000)
 one-left tells f left due draft entries r at read =
     let here = subst (λ d. HasRead tells d draft entries r) at read in

@@ -3,10 +3,11 @@ use Rattle.std.proofs.Common.{◌≡◌, ℕ, ◌+◌, ◌<◌, List, [], ◌∷
 use Rattle.std.specs.Prelude.{filter}
 use Rattle.std.specs.List.{flat_map}
 use Rattle.std.proofs.lemmas.List.{take_more}
-use Rattle.both_tables.specs.Tables.{Tables}
-use Rattle.both_tables.specs.declared.cell_places.CellPlace.{CellPlace}
+use Rattle.tables.specs.Tables.{Tables}
+use Rattle.tables.specs.declared.cell_places.CellPlace.{CellPlace}
 use Rattle.record_lines.specs.Cells.{cell_at, cell_words}
-use Rattle.record.specs.Text.{line, is_changed, changed}
+use Rattle.record_lines.specs.Text.{line}
+use Rattle.record.specs.Text.{is_changed, changed}
 use Rattle.record.specs.inner.Pieces.{cell_piece}
 
 pub changed-cons : (tables : Tables) (place : CellPlace) (places : List CellPlace) (b : Bool) → is_changed tables place ≡ b →

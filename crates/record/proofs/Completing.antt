@@ -5,7 +5,7 @@ use Rattle.std.specs.List.{AllByRecursion, flat_map}
 use Rattle.std.proofs.lemmas.List.Elements.{All-from_recursion}
 use Rattle.std.proofs.lemmas.Grind.{flat_map-append}
 use Rattle.std.proofs.lemmas.List.{length-map}
-use Rattle.base.specs.Spelling.{words}
+use Rattle.base.specs.Words.{words}
 use Rattle.base.proofs.Cells.{TableOf, HasSize-replaced, replaced-here, replaced-other}
 use Rattle.cache_table.specs.Baseline as cache_baseline
 use Rattle.cache_table.specs.Keeping as cache_keeping
@@ -17,32 +17,32 @@ use Rattle.directory_table.specs.Keeping as directory_keeping
 use Rattle.directory_table.specs.Table as directory_table
 use Rattle.directory_table.proofs.Keeping.{keeps-replaced as directory-keeps}
 use Rattle.directory_table.specs.inner.Standing as directory_standing
-use Rattle.both_tables.specs.CellPlaces.{all_places, place_number}
-use Rattle.both_tables.specs.Tables.{Tables, baseline_of}
-use Rattle.both_tables.specs.declared.cell_places.CellPlace.{CellPlace}
-use Rattle.both_tables.specs.declared.cell_places.CellPlace.TheVariants as place
-use Rattle.both_tables.proofs.CellPlaces.{at-own}
+use Rattle.tables.specs.CellPlaces.{all_places, place_number}
+use Rattle.tables.specs.Tables.{Tables, baseline_of}
+use Rattle.tables.specs.declared.cell_places.CellPlace.{CellPlace}
+use Rattle.tables.specs.declared.cell_places.CellPlace.TheVariants as place
+use Rattle.tables.proofs.CellPlaces.{at-own}
 use Rattle.record_lines.specs.declared.cells.Cell.{Cell}
 use Rattle.record_lines.specs.declared.cells.Cell.TheVariants as cell
 use Rattle.record_lines.specs.declared.entry.Entry.{Entry}
 use Rattle.record_lines.specs.Cells.{cell_at, cell_words, is_known, place_of, FitsCell}
 use Rattle.record.specs.View.{RecordingView}
-use Rattle.record.specs.Text.{text, line, header_words, shape_words, opening_words, cells_words, entries_words, told, told_words, end_words, changed}
-use Rattle.record.specs.Text.{changed_cells}
+use Rattle.record.specs.Text.{text, told, changed, changed_cells}
+use Rattle.record_lines.specs.Text.{line, header_words, shape_words, opening_words, cells_words, entries_words, told_words, end_words}
 use Rattle.base.specs.Extent.{Extent}
 use Rattle.base.specs.declared.controller.protocol.Protocol.{Protocol}
 use Rattle.base.specs.declared.controller.protocol.Protocol.TheVariants.{Msi}
 use Rattle.record_lines.specs.declared.due.Due.{Due}
-use Rattle.record_lines.specs.declared.due.Form.{Form}
+use Rattle.record_lines.specs.declared.due.TextHead.{TextHead}
 use Rattle.record_lines.specs.declared.told.Told.{Told}
 use Rattle.record_lines.specs.declared.version.Version.{Version}
 use Rattle.record_lines.specs.declared.version.Version.TheVariants.{One, Two}
-use Rattle.record.specs.Versions.{form, header_leads, protocol_lines, protocol_words, seats_lines, seats_words, CanTell, HasTextIn, IsShapeIn}
+use Rattle.record_lines.specs.Versions.{form, header_leads, protocol_lines, protocol_words, seats_lines, seats_words, CanTell, IsShapeIn}
+use Rattle.record.specs.Versions.{HasTextIn}
 use Rattle.record.proofs.Owners.{are-owners, entries-fit, entries_of, owners_of, told-of}
 use Rattle.record_lines.specs.declared.due.Due.TheVariants.{Header, ProtocolLine, ShapeLine, SeatsLine, OpeningLine, CellCount, CellLine, EntryCount}
 use Rattle.record_lines.specs.declared.due.Due.TheVariants.{EntryLine, EndLine, Nothing}
-use Rattle.record_lines.specs.Grammar.{cells_due}
-use Rattle.record_lines.specs.Grammar.{entries_due, AreValues, FitsEntry, FitsTold, Leads, Follow}
+use Rattle.record_lines.specs.Grammar.{cells_due, entries_due, AreValues, FitsEntry, FitsTold, Leads, Follow}
 use Rattle.record.specs.Recordable.{AreWhole, IsRecordable}
 use Rattle.record_lines.specs.Refused.{ended, IsWellFormed}
 use Rattle.record.specs.inner.Drafts.{IsBaselineFrom}
@@ -88,7 +88,7 @@ put-others t (cell.Directory s e x) h (place.Directory u f) other =
     (replaced-other directory_baseline.all_states directory_baseline.all_events directory_table.state_number directory_table.event_number
     directory-listed t.directory s e x u f h.directory.whole (λ both. other (ap (λ z. place.Directory z f) both.0 ∙ ap (place.Directory s) both.1)))
 
-put-cache : (t : Tables) (c : Cell) → AreWhole t → is_known t.protocol c ≡ true → cache_keeping.IsTable (put t c).protocol (put t c).cache
+put-cache : (t : Tables) (c : Cell) → AreWhole t → is_known t.protocol c ≡ true → cache_keeping.IsCacheTable (put t c).protocol (put t c).cache
 unfolding put
 put-cache t (cell.Cache s e x) h known = record {
   whole =
@@ -98,7 +98,7 @@ put-cache t (cell.Cache s e x) h known = record {
 }
 put-cache t (cell.Directory s e x) h known = h.cache
 
-put-directory : (t : Tables) (c : Cell) → AreWhole t → is_known t.protocol c ≡ true → directory_keeping.IsTable (put t c).protocol (put t c).directory
+put-directory : (t : Tables) (c : Cell) → AreWhole t → is_known t.protocol c ≡ true → directory_keeping.IsDirectoryTable (put t c).protocol (put t c).directory
 unfolding put
 put-directory t (cell.Cache s e x) h known = h.directory
 put-directory t (cell.Directory s e x) h known = record {
@@ -169,7 +169,7 @@ one-line : (ls rest : List (List ℕ)) (l : List ℕ) (ws : List (List ℕ)) →
 one-line ls rest l ws is spelled = ap (flat_map ended) is ∙ ap (λ x. x ++ flat_map ended rest) (ended-line l ws spelled)
 
 -- the lines of so many cells, and others
-record Cells (f : Form) (from count : ℕ) (ls : List (List ℕ)) : Type 0 where
+record Cells (f : TextHead) (from count : ℕ) (ls : List (List ℕ)) : Type 0 where
   cells : List Cell
   rest : List (List ℕ)
   listed : AreListed f.protocol from cells
@@ -177,7 +177,7 @@ record Cells (f : Form) (from count : ℕ) (ls : List (List ℕ)) : Type 0 where
   follow : Follow (EntryCount f) rest Nothing
   bytes : flat_map ended ls ≡ flat_map line (map cell_words cells) ++ flat_map ended rest
 
-cells-of : (f : Form) (n from : ℕ) (ls : List (List ℕ)) → Follow (cells_due f n from) ls Nothing → Cells f from n ls
+cells-of : (f : TextHead) (n from : ℕ) (ls : List (List ℕ)) → Follow (cells_due f n from) ls Nothing → Cells f from n ls
 cells-of f zero from ls g = record { cells = []; rest = ls; listed = tt; many = refl; follow = g; bytes = refl }
 cells-of f (suc n) from ls g =
     let b = begins-of (CellLine f (suc n) from) ls Nothing (λ e. cc) g in
@@ -198,13 +198,13 @@ cells-of f (suc n) from ls g =
     }
 
 -- the lines of so many entries, and the last one
-record Tolds (f : Form) (count : ℕ) (ls : List (List ℕ)) : Type 0 where
+record Tolds (f : TextHead) (count : ℕ) (ls : List (List ℕ)) : Type 0 where
   tolds : List Told
   many : length tolds ≡ count
   fit : AllByRecursion (FitsTold f.seats) tolds
   bytes : flat_map ended ls ≡ flat_map line (map told_words tolds ++ end_words ∷ [])
 
-tolds-of : (f : Form) (n : ℕ) (ls : List (List ℕ)) → Follow (entries_due f n) ls Nothing → Tolds f n ls
+tolds-of : (f : TextHead) (n : ℕ) (ls : List (List ℕ)) → Follow (entries_due f n) ls Nothing → Tolds f n ls
 tolds-of f zero ls g =
     let b = begins-of (EndLine f) ls Nothing (λ e. cc) g in
     let none = none-behind b.rest (turned b.next Nothing b.rest Nothing b.leads.1 b.follow) in
@@ -251,7 +251,7 @@ four-lines a b c d rest = simp (append_assoc, append-nil)
 
 head-of : (v : Version) (ls : List (List ℕ)) → Follow (header_leads v) ls Nothing → Head v ls
 head-of One ls g =
-    let f : Form = form One Msi 0 in
+    let f : TextHead = form One Msi 0 in
     let b = begins-of (ShapeLine f) ls Nothing (λ e. cc) g in
     let d = begins-of (OpeningLine f b.leads.0) b.rest Nothing (λ e. cc) (turned b.next _ b.rest Nothing b.leads.3 b.follow) in
     record {
@@ -273,7 +273,7 @@ head-of One ls g =
 head-of Two ls g =
     let a = begins-of ProtocolLine ls Nothing (λ e. cc) g in
     let p : Protocol = a.leads.0 in
-    let f : Form = form Two p 0 in
+    let f : TextHead = form Two p 0 in
     let b = begins-of (ShapeLine f) a.rest Nothing (λ e. cc) (turned a.next _ a.rest Nothing a.leads.2 a.follow) in
     let c = begins-of (SeatsLine f b.leads.0) b.rest Nothing (λ e. cc) (turned b.next _ b.rest Nothing b.leads.3 b.follow) in
     let n : ℕ = c.leads.0 in
@@ -314,7 +314,7 @@ unfolding tail_text
 tail-is cs ts =
     ap (λ l. line (cells_words (length cs)) ++ l) (flat_map-append line (map cell_words cs) (entries_words (length ts) ∷ map told_words ts ++ end_words ∷ []))
 
-tail-of : (f : Form) (ls : List (List ℕ)) → Follow (CellCount f) ls Nothing →
+tail-of : (f : TextHead) (ls : List (List ℕ)) → Follow (CellCount f) ls Nothing →
     (cs : List Cell) × (ts : List Told) × AreListed f.protocol 0 cs × (length ts ≤ 1000000) × AllByRecursion (FitsTold f.seats) ts ×
     (flat_map ended ls ≡ tail_text cs ts)
 unfolding tail_text

@@ -7,26 +7,26 @@ use Rattle.std.proofs.lemmas.List.{length_push, map-append}
 use Rattle.std.proofs.lemmas.List.Elements.{All-push}
 use Rattle.base.specs.Extent.{Extent, IsWithinLimits}
 use Rattle.base.specs.declared.controller.protocol.Protocol.{Protocol}
-use Rattle.record_lines.specs.declared.due.Form.{Form}
+use Rattle.record_lines.specs.declared.due.TextHead.{TextHead}
 use Rattle.record_lines.specs.declared.told.Told.{Told}
 use Rattle.record_lines.specs.declared.version.Version.{Version}
 use Rattle.record_lines.specs.declared.version.Version.TheVariants.{One, Two}
-use Rattle.record.specs.Versions.{form, shape_leads_in, protocol_lines, protocol_words, seats_lines, CanTell, IsShapeIn}
+use Rattle.record_lines.specs.Versions.{form, shape_leads_in, protocol_lines, protocol_words, seats_lines, CanTell, IsShapeIn}
 use Rattle.record.proofs.Owners.{more-owners, told-more}
-use Rattle.both_tables.specs.CellPlaces.{place_number}
-use Rattle.both_tables.specs.Tables.{Tables, baseline_of}
-use Rattle.both_tables.specs.declared.cell_places.CellPlace.{CellPlace}
-use Rattle.both_tables.proofs.CellPlaces.{at-own}
+use Rattle.tables.specs.CellPlaces.{place_number}
+use Rattle.tables.specs.Tables.{Tables, baseline_of}
+use Rattle.tables.specs.declared.cell_places.CellPlace.{CellPlace}
+use Rattle.tables.proofs.CellPlaces.{at-own}
 use Rattle.record_lines.specs.declared.cells.Cell.{Cell}
 use Rattle.record_lines.specs.declared.due.Due.{Due}
-use Rattle.record_lines.specs.declared.due.Due.TheVariants.{ProtocolLine, ShapeLine, SeatsLine, OpeningLine, CellCount, CellLine, EntryLine}
-use Rattle.record_lines.specs.declared.due.Due.TheVariants.{EndLine}
+use Rattle.record_lines.specs.declared.due.Due.TheVariants.{ProtocolLine, ShapeLine, SeatsLine, OpeningLine, CellCount, CellLine, EntryLine, EndLine}
 use Rattle.record_lines.specs.declared.entry.Entry.{Entry}
 use Rattle.record_lines.specs.Cells.{cell_at, cell_words, place_of}
-use Rattle.record_lines.specs.Grammar.{cells_due, entries_due, AreValues, FitsEntry, FitsTold, IsListed, IsOwner, Leads}
+use Rattle.record_lines.specs.Grammar.{cells_due, entries_due, AreValues, FitsEntry, FitsTold, MayBeListed, IsOwner, Leads}
 use Rattle.record.specs.View.{owner_list, AreOwners}
 use Rattle.record.specs.Recordable.{AreWhole}
-use Rattle.record.specs.Text.{head_lines, header_words, shape_words, changed_cells, cells_words, entries_words, told, told_words}
+use Rattle.record.specs.Text.{head_lines, changed_cells, told}
+use Rattle.record_lines.specs.Text.{header_words, shape_words, cells_words, entries_words, told_words}
 use Rattle.record.specs.inner.Drafts.{recorded, with_told, Kept, lines_to_cells, lines_to_entries, lines_before, IsBaselineFrom}
 use Rattle.record.specs.inner.Drafts.{IsHeadedAs, IsReadTo, IsTaken}
 use Rattle.record.proofs.Listed.{listed-all, listed-more, plain-more}
@@ -34,19 +34,19 @@ use Rattle.record.proofs.Standing.{baseline-whole}
 
 -- ---- what is due behind a count, and behind one of so many
 
-cells-before : (f : Form) (n from : ℕ) (r : Kept) → lines_before (cells_due f n from) r ≡ lines_to_cells r (length (changed_cells r.tables) + n)
+cells-before : (f : TextHead) (n from : ℕ) (r : Kept) → lines_before (cells_due f n from) r ≡ lines_to_cells r (length (changed_cells r.tables) + n)
 cells-before f zero from r = ap (lines_to_cells r) (omega arith)
 cells-before f (suc n) from r = refl
 
-entries-before : (f : Form) (n : ℕ) (r : Kept) → lines_before (entries_due f n) r ≡ lines_to_entries r (length r.entries + n)
+entries-before : (f : TextHead) (n : ℕ) (r : Kept) → lines_before (entries_due f n) r ≡ lines_to_entries r (length r.entries + n)
 entries-before f zero r = ap (lines_to_entries r) (omega arith)
 entries-before f (suc n) r = refl
 
 -- what is told in the head, and a shape of its version
-abbrev IsHead : Form → Kept → Type 0
+abbrev IsHead : TextHead → Kept → Type 0
 IsHead f r = IsHeadedAs f r × IsShapeIn r.version r.shape
 
-cells-read : (f : Form) (n from : ℕ) (r : Kept) → IsWithinLimits r.shape → AreWhole r.tables → AreValues r.shape r.opening → r.entries ≡ [] → from ≤ 184 →
+cells-read : (f : TextHead) (n from : ℕ) (r : Kept) → IsWithinLimits r.shape → AreWhole r.tables → AreValues r.shape r.opening → r.entries ≡ [] → from ≤ 184 →
     IsBaselineFrom from r.tables → All FitsEntry r.entries → AreOwners r.seats r.owners r.entries → IsHead f r → IsReadTo (cells_due f n from) r
 cells-read f zero from r shape tables opening entries low plain fits owners head =
     record { shape = shape; tables = tables; fits = fits; opening = opening; cells = tt; entries = entries; owners = owners; head = head }
@@ -61,7 +61,7 @@ cells-read f (suc n) from r shape tables opening entries low plain fits owners h
   head = head;
 }
 
-entries-read : (f : Form) (n : ℕ) (r : Kept) → IsWithinLimits r.shape → AreWhole r.tables → AreValues r.shape r.opening → length r.entries + n ≤ 1000000 →
+entries-read : (f : TextHead) (n : ℕ) (r : Kept) → IsWithinLimits r.shape → AreWhole r.tables → AreValues r.shape r.opening → length r.entries + n ≤ 1000000 →
     All FitsEntry r.entries → AreOwners r.seats r.owners r.entries → IsHead f r → IsReadTo (entries_due f n) r
 entries-read f zero r shape tables opening few fits owners head =
     record { shape = shape; tables = tables; fits = fits; opening = opening; cells = tt; entries = omega (arith, few); owners = owners; head = head }
@@ -81,7 +81,7 @@ baseline-changed p = sym (listed-all (baseline_of p) 0 (omega arith) (λ s high.
 
 -- ---- lines that leave the recording as it is
 
-pub at-cell_count : (f : Form) (r : Kept) (line : List (List ℕ)) (next : Due) → IsReadTo (CellCount f) r → Leads (CellCount f) line next →
+pub at-cell_count : (f : TextHead) (r : Kept) (line : List (List ℕ)) (next : Due) → IsReadTo (CellCount f) r → Leads (CellCount f) line next →
     IsTaken (CellCount f) r line next r
 at-cell_count f r line next h leads =
     let none : changed_cells r.tables ≡ [] = ap changed_cells h.cells ∙ baseline-changed r.tables.protocol in
@@ -100,7 +100,7 @@ at-cell_count f r line next h leads =
 
 -- ---- the last line
 
-pub end-taken : (f : Form) (r : Kept) (line : List (List ℕ)) (next : Due) → IsReadTo (EndLine f) r → Leads (EndLine f) line next →
+pub end-taken : (f : TextHead) (r : Kept) (line : List (List ℕ)) (next : Due) → IsReadTo (EndLine f) r → Leads (EndLine f) line next →
     IsTaken (EndLine f) r line next r
 end-taken f r line next h leads =
     subst (λ d. IsTaken (EndLine f) r line d r) (sym leads.1) (grind (arith, common_steps, h, leads))
@@ -123,8 +123,8 @@ with_tables r tables = record {
 abbrev head_of : Kept → Protocol → List (List (List ℕ))
 head_of r p = head_lines r.version (recorded (with_tables r (record { protocol = p; cache = r.tables.cache; directory = r.tables.directory })))
 
-pub cell-taken : (f : Form) (r : Kept) (tables : Tables) (left from : ℕ) (cell : Cell) (line : List (List ℕ)) (next : Due) →
-    IsReadTo (CellLine f left from) r → IsListed f.protocol from cell → line ≡ cell_words cell → AreWhole tables → tables.protocol ≡ r.tables.protocol →
+pub cell-taken : (f : TextHead) (r : Kept) (tables : Tables) (left from : ℕ) (cell : Cell) (line : List (List ℕ)) (next : Due) →
+    IsReadTo (CellLine f left from) r → MayBeListed f.protocol from cell → line ≡ cell_words cell → AreWhole tables → tables.protocol ≡ r.tables.protocol →
     cell_at tables (place_of cell) ≡ cell → ((place : CellPlace) → place ≢ place_of cell → cell_at tables place ≡ cell_at r.tables place) →
     next ≡ cells_due f (left - 1) (place_number (place_of cell) + 1) → IsTaken (CellLine f left from) r line next (with_tables r tables)
 cell-taken f r tables left from cell line next h listed spelled whole p here others due =
@@ -132,7 +132,7 @@ cell-taken f r tables left from cell line next h listed spelled whole p here oth
     let own = at-own (place_of cell) in
     let behind : ℕ = place_number (place_of cell) + 1 in
     let low : behind ≤ 184 = omega (arith, own.1) in
-    let first : IsListed r.tables.protocol from cell = subst (λ q. IsListed q from cell) h.head.0.1 listed in
+    let first : MayBeListed r.tables.protocol from cell = subst (λ q. MayBeListed q from cell) h.head.0.1 listed in
     let plain = plain-more r.tables tables from cell p h.cells.2 listed.in_order others in
     let more : changed_cells tables ≡ changed_cells r.tables ++ cell ∷ [] =
     sym (listed-all tables behind low plain) ∙ listed-more r.tables tables from cell p h.cells.2 first here others
@@ -156,7 +156,7 @@ cell-taken f r tables left from cell line next h listed spelled whole p here oth
           ((h.head.0.0, h.head.0.1 ∙ sym p, h.head.0.2, subst (λ q. CanTell r.version q r.seats) (sym p) h.head.0.3), h.head.1));
     }
 
-entry-more : (f : Form) (r : Kept) (left : ℕ) (t : Told) (line : List (List ℕ)) (next : Due) → IsReadTo (EntryLine f left) r → FitsTold f.seats t →
+entry-more : (f : TextHead) (r : Kept) (left : ℕ) (t : Told) (line : List (List ℕ)) (next : Due) → IsReadTo (EntryLine f left) r → FitsTold f.seats t →
     line ≡ told_words t → next ≡ entries_due f (left - 1) →
     IsTaken (EntryLine f left) r line next (with_told r (r.entries ++ t.entry ∷ []) (r.owners ++ owner_list t.owner))
 entry-more f r left t line next h fits spelled due =
@@ -179,7 +179,7 @@ entry-more f r left t line next h fits spelled due =
           (more-owners r.seats r.owners r.entries t.owner t.entry h.owners owner) h.head);
     }
 
-pub entry-taken : (f : Form) (r : Kept) (entries : List Entry) (owners : List ℕ) (left : ℕ) (t : Told) (line : List (List ℕ)) (next : Due) →
+pub entry-taken : (f : TextHead) (r : Kept) (entries : List Entry) (owners : List ℕ) (left : ℕ) (t : Told) (line : List (List ℕ)) (next : Due) →
     IsReadTo (EntryLine f left) r → FitsTold f.seats t → line ≡ told_words t → entries ≡ r.entries ++ t.entry ∷ [] →
     owners ≡ r.owners ++ owner_list t.owner → next ≡ entries_due f (left - 1) →
     IsTaken (EntryLine f left) r line next (with_told r entries owners)
@@ -224,7 +224,7 @@ protocol-taken r tables line p next h spelled own due =
       };
     }))
 
-pub shape-taken : (f : Form) (r : Kept) (line : List (List ℕ)) (shape : Extent) (next : Due) → IsReadTo (ShapeLine f) r → IsShapeIn f.version shape →
+pub shape-taken : (f : TextHead) (r : Kept) (line : List (List ℕ)) (shape : Extent) (next : Due) → IsReadTo (ShapeLine f) r → IsShapeIn f.version shape →
     line ≡ shape_words shape → next ≡ shape_leads_in f.version f shape → IsTaken (ShapeLine f) r line next (with_shape r shape)
 shape-taken f r line shape next h within spelled due =
     subst (λ d. IsTaken (ShapeLine f) r line d (with_shape r shape)) (sym due) (by-version f.version refl)

@@ -5,31 +5,31 @@ use Rattle.std.specs.Prelude.{filter, ◌&&◌}
 use Rattle.std.specs.List.{AllByRecursion, range_with_len}
 use Rattle.std.proofs.lemmas.List.Elements.{All-from_recursion, recursion_from_All}
 use Rattle.cache_table.specs.Table.{has_event, has_state}
-use Rattle.both_tables.specs.CellPlaces.{all_places, place_number}
-use Rattle.both_tables.specs.Tables.{Tables, baseline_of}
-use Rattle.both_tables.specs.declared.cell_places.CellPlace.{CellPlace}
-use Rattle.both_tables.specs.declared.cell_places.CellPlace.TheVariants as place
-use Rattle.both_tables.proofs.CellPlaces.{numbers}
+use Rattle.tables.specs.CellPlaces.{all_places, place_number}
+use Rattle.tables.specs.Tables.{Tables, baseline_of}
+use Rattle.tables.specs.declared.cell_places.CellPlace.{CellPlace}
+use Rattle.tables.specs.declared.cell_places.CellPlace.TheVariants as place
+use Rattle.tables.proofs.CellPlaces.{numbers}
 use Rattle.record_lines.specs.declared.cells.Cell.{Cell}
 use Rattle.record_lines.specs.Cells.{cell_at, cell_words, is_known, is_same, most_cells, place_of}
 use Rattle.record.specs.View.{RecordingView}
-use Rattle.base.specs.Spelling.{joined}
-use Rattle.record.specs.Text.{text, lines, header_words, shape_words, opening_words, cells_words, entries_words, told, told_words, end_words}
-use Rattle.record.specs.Text.{is_changed, changed, changed_cells}
+use Rattle.base.specs.Words.{joined}
+use Rattle.record.specs.Text.{text, lines, told, is_changed, changed, changed_cells}
+use Rattle.record_lines.specs.Text.{header_words, shape_words, opening_words, cells_words, entries_words, told_words, end_words}
 use Rattle.base.specs.Extent.{Extent}
 use Rattle.base.specs.declared.controller.protocol.Protocol.{Protocol}
 use Rattle.base.specs.declared.controller.protocol.Protocol.TheVariants.{Msi, MsiE}
 use Rattle.record_lines.specs.declared.due.Due.{Due}
-use Rattle.record_lines.specs.declared.due.Form.{Form}
+use Rattle.record_lines.specs.declared.due.TextHead.{TextHead}
 use Rattle.record_lines.specs.declared.told.Told.{Told}
 use Rattle.record_lines.specs.declared.version.Version.{Version}
 use Rattle.record_lines.specs.declared.version.Version.TheVariants.{One, Two}
-use Rattle.record.specs.Versions.{form, header_leads, shape_leads_in, most_bytes, protocol_lines, seats_lines, HasTextIn}
+use Rattle.record_lines.specs.Versions.{form, header_leads, shape_leads_in, most_bytes, protocol_lines, seats_lines}
+use Rattle.record.specs.Versions.{HasTextIn}
 use Rattle.record.proofs.Owners.{told-fit, told-length}
 use Rattle.record_lines.specs.declared.due.Due.TheVariants.{Header, ProtocolLine, ShapeLine, SeatsLine, OpeningLine, CellCount, CellLine, EntryCount}
 use Rattle.record_lines.specs.declared.due.Due.TheVariants.{EntryLine, EndLine, Nothing}
-use Rattle.record_lines.specs.Grammar.{cells_due, entries_due, IsListed, FitsEntry, FitsTold}
-use Rattle.record_lines.specs.Grammar.{Leads, Follow}
+use Rattle.record_lines.specs.Grammar.{cells_due, entries_due, MayBeListed, FitsEntry, FitsTold, Leads, Follow}
 use Rattle.record_lines.specs.Refused.{ended, limit, AreShort, IsWellFormed}
 use Rattle.record.specs.Recordable.{AreWhole, IsRecordable}
 use Rattle.record.proofs.Changed.{changed-cons}
@@ -58,7 +58,7 @@ followed-lines due last (x ∷ xs) is f = (leads-line due x f.0 is f.1, followed
 -- these cells may be listed one after the other, from this place on
 abbrev pub AreListed : Protocol → ℕ → List Cell → Type 0
 AreListed p from [] = Unit {0}
-AreListed p from (c ∷ cs) = IsListed p from c × AreListed p (place_number (place_of c) + 1) cs
+AreListed p from (c ∷ cs) = MayBeListed p from c × AreListed p (place_number (place_of c) + 1) cs
 
 sooner : (p : Protocol) (from : ℕ) (cs : List Cell) → AreListed p (from + 1) cs → AreListed p from cs
 sooner p from [] h = tt
@@ -91,7 +91,7 @@ listed-one : (t : Tables) (s : CellPlace) (ss : List CellPlace) (a : ℕ) (b : B
     AreListed t.protocol (a + 1) (changed t ss) → AreListed t.protocol a (changed t (s ∷ ss))
 listed-one t s ss a true whole e here rest =
     let numbered : place_number (place_of (cell_at t s)) ≡ a = ap place_number (place-own t s) ∙ here in
-    let first : IsListed t.protocol a (cell_at t s) = record {
+    let first : MayBeListed t.protocol a (cell_at t s) = record {
       fits = whole.fits s;
       known = changed-known t s (known-at t whole s) e;
       in_order = omega (arith, numbered);
@@ -154,7 +154,7 @@ few-cells t whole = omega (arith, few-changed t whole all_places, had-places t.p
 pub few-listed : (t : Tables) → AreWhole t → length (changed_cells t) ≤ 184
 few-listed t whole = omega (arith, few-cells t whole, few-most t.protocol)
 
-cells-followed : (f : Form) (cs : List Cell) (from : ℕ) (rest : List (List (List ℕ))) → AreListed f.protocol from cs →
+cells-followed : (f : TextHead) (cs : List Cell) (from : ℕ) (rest : List (List (List ℕ))) → AreListed f.protocol from cs →
     Followed (EntryCount f) rest Nothing → Followed (cells_due f (length cs) from) (map cell_words cs ++ rest) Nothing
 cells-followed f [] from rest h g = g
 cells-followed f (c ∷ cs) from rest h g =
@@ -164,7 +164,7 @@ cells-followed f (c ∷ cs) from rest h g =
 
 -- ---- the entries
 
-told-followed : (f : Form) (ts : List Told) → AllByRecursion (FitsTold f.seats) ts →
+told-followed : (f : TextHead) (ts : List Told) → AllByRecursion (FitsTold f.seats) ts →
     Followed (entries_due f (length ts)) (map told_words ts ++ end_words ∷ []) Nothing
 told-followed f [] h = (Nothing, (refl, refl), refl)
 told-followed f (t ∷ ts) h =
@@ -178,7 +178,7 @@ tail_lines r =
     cells_words (length (changed_cells r.tables)) ∷ map cell_words (changed_cells r.tables) ++
     (entries_words (length r.entries) ∷ map told_words (told r.owners r.entries) ++ end_words ∷ [])
 
-tail-followed : (f : Form) (r : RecordingView) → IsRecordable r → f.protocol ≡ r.tables.protocol → f.seats ≡ r.seats →
+tail-followed : (f : TextHead) (r : RecordingView) → IsRecordable r → f.protocol ≡ r.tables.protocol → f.seats ≡ r.seats →
     Followed (CellCount f) (tail_lines r) Nothing
 unfolding tail_lines
 tail-followed f r h protocol seats =
@@ -204,14 +204,14 @@ lines_behind version r =
 behind-followed : (v : Version) (r : RecordingView) → IsRecordable r → HasTextIn v r → Followed (header_leads v) (lines_behind v r) Nothing
 unfolding tail_lines
 behind-followed One r h t =
-    let f : Form = form One Msi 0 in (
+    let f : TextHead = form One Msi 0 in (
       OpeningLine f r.shape,
       (r.shape, t.shape, refl, refl),
       (CellCount f, (r.opening, h.opening, refl, refl), tail-followed f r h (sym t.told.0) (sym t.told.1)),
     )
 behind-followed Two r h t =
-    let f : Form = form Two r.tables.protocol 0 in
-    let g : Form = form Two r.tables.protocol r.seats in (
+    let f : TextHead = form Two r.tables.protocol 0 in
+    let g : TextHead = form Two r.tables.protocol r.seats in (
       ShapeLine f,
       (r.tables.protocol, refl, refl),
       (
@@ -261,17 +261,17 @@ unfolding IsBehind
 behind-header One = refl
 behind-header Two = refl
 
-behind-shape : (v w : Version) (f : Form) (shape : Extent) → f.version ≡ v → IsBehind v (shape_leads_in w f shape)
+behind-shape : (v w : Version) (f : TextHead) (shape : Extent) → f.version ≡ v → IsBehind v (shape_leads_in w f shape)
 unfolding IsBehind
 behind-shape v One f shape is = is
 behind-shape v Two f shape is = is
 
-behind-cells : (v : Version) (f : Form) (n from : ℕ) → f.version ≡ v → IsBehind v (cells_due f n from)
+behind-cells : (v : Version) (f : TextHead) (n from : ℕ) → f.version ≡ v → IsBehind v (cells_due f n from)
 unfolding IsBehind
 behind-cells v f zero from is = is
 behind-cells v f (suc n) from is = is
 
-behind-entries : (v : Version) (f : Form) (n : ℕ) → f.version ≡ v → IsBehind v (entries_due f n)
+behind-entries : (v : Version) (f : TextHead) (n : ℕ) → f.version ≡ v → IsBehind v (entries_due f n)
 unfolding IsBehind
 behind-entries v f zero is = is
 behind-entries v f (suc n) is = is

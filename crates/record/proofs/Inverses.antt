@@ -5,24 +5,24 @@ use Rattle.std.specs.List.{AllByRecursion, flat_map, range_with_len}
 use Rattle.std.specs.Fmt.{decimal}
 use Rattle.std.proofs.lemmas.Fmt.{decimal_injective}
 use Rattle.std.proofs.lemmas.List.Elements.{recursion_from_All}
-use Rattle.base.specs.Spelling.{words, outcome_words, FitsOutcome}
+use Rattle.base.specs.Words.{words, joined}
+use Rattle.base.specs.Spelling.{outcome_words, FitsOutcome}
 use Rattle.base.specs.declared.ids.CacheId.{CacheId}
 use Rattle.base.specs.declared.step.Step.{Step}
 use Rattle.base.specs.declared.step.Outcome.{Outcome}
 use Rattle.base.specs.declared.step.Outcome.TheVariants as outcome
 use Rattle.base.proofs.Spellings.{same_step}
 use Rattle.base.specs.Extent.{Extent}
-use Rattle.both_tables.specs.CellPlaces.{all_places, place_number}
-use Rattle.both_tables.specs.Tables.{Tables, baseline_of}
-use Rattle.both_tables.specs.declared.cell_places.CellPlace.{CellPlace}
-use Rattle.both_tables.proofs.CellPlaces.{numbers, some_place, at-own}
+use Rattle.tables.specs.CellPlaces.{all_places, place_number}
+use Rattle.tables.specs.Tables.{Tables, baseline_of}
+use Rattle.tables.specs.declared.cell_places.CellPlace.{CellPlace}
+use Rattle.tables.proofs.CellPlaces.{numbers, some_place, at-own}
 use Rattle.record_lines.specs.declared.cells.Cell.{Cell}
 use Rattle.record_lines.specs.declared.entry.Entry.{Entry}
 use Rattle.record_lines.specs.Cells.{cell_at, cell_words}
 use Rattle.record.specs.View.{RecordingView}
-use Rattle.base.specs.Spelling.{joined}
-use Rattle.record.specs.Text.{text, line, lines, shape_words, opening_words, cells_words, entries_words, entry_words, told, told_words, end_words, is_changed}
-use Rattle.record.specs.Text.{changed, changed_cells}
+use Rattle.record.specs.Text.{text, lines, told, is_changed, changed, changed_cells}
+use Rattle.record_lines.specs.Text.{line, shape_words, opening_words, cells_words, entries_words, entry_words, told_words, end_words}
 use Rattle.record_lines.specs.declared.due.Due.TheVariants.{Header}
 use Rattle.record_lines.specs.declared.told.Told.{Told}
 use Rattle.record_lines.specs.declared.version.Version.{Version}

@@ -2,20 +2,21 @@
 use Rattle.std.proofs.Common.{◌≡◌, ◌≢◌, ℕ, zero, suc, ◌+◌, ◌-◌, ◌<◌, ◌≤◌, true, false, cond, not, List, [], ◌∷◌, ◌++◌, take, map, refl, sym, ap, ◌∙◌, arith}
 use Rattle.std.proofs.lemmas.List.{take_more, append-nil}
 use Rattle.base.proofs.Same.{entry-self}
-use Rattle.base.specs.Spelling.{words}
+use Rattle.base.specs.Words.{words}
 use Rattle.cache_table.specs.Names.{action_number}
 use Rattle.cache_table.specs.Table as cache_table
 use Rattle.directory_table.specs.Names as directory_names
 use Rattle.directory_table.specs.Table as directory_table
-use Rattle.both_tables.specs.CellPlaces.{all_places, place_number}
-use Rattle.both_tables.specs.Tables.{Tables, baseline_of}
-use Rattle.both_tables.specs.declared.cell_places.CellPlace.{CellPlace}
-use Rattle.both_tables.proofs.CellPlaces.{some_place, place_at, at-own, number-at}
+use Rattle.tables.specs.CellPlaces.{all_places, place_number}
+use Rattle.tables.specs.Tables.{Tables, baseline_of}
+use Rattle.tables.specs.declared.cell_places.CellPlace.{CellPlace}
+use Rattle.tables.proofs.CellPlaces.{some_place, place_at, at-own, number-at}
 use Rattle.record_lines.specs.declared.cells.Cell.{Cell}
 use Rattle.record_lines.specs.declared.cells.Cell.TheVariants as cell
 use Rattle.record_lines.specs.Cells.{cell_at, is_same, place_of}
-use Rattle.record.specs.Text.{changed, changed_cells, is_changed, line}
-use Rattle.record_lines.specs.Grammar.{IsListed}
+use Rattle.record.specs.Text.{changed, changed_cells, is_changed}
+use Rattle.record_lines.specs.Text.{line}
+use Rattle.record_lines.specs.Grammar.{MayBeListed}
 use Rattle.record_lines.specs.Refused.{ended}
 use Rattle.record.specs.inner.Drafts.{IsBaselineFrom}
 use Rattle.record.proofs.Changed.{changed-append}
@@ -93,7 +94,7 @@ other-number : (s c : CellPlace) → place_number s ≢ place_number c → s ≢
 other-number s c ne e = ne (ap place_number e)
 
 -- one cell more
-pub listed-more : (t u : Tables) (from : ℕ) (cell : Cell) → u.protocol ≡ t.protocol → IsBaselineFrom from t → IsListed t.protocol from cell →
+pub listed-more : (t u : Tables) (from : ℕ) (cell : Cell) → u.protocol ≡ t.protocol → IsBaselineFrom from t → MayBeListed t.protocol from cell →
     cell_at u (place_of cell) ≡ cell → ((s : CellPlace) → s ≢ place_of cell → cell_at u s ≡ cell_at t s)
     → changed u (take (place_number (place_of cell) + 1) all_places) ≡ changed t (take from all_places) ++ cell ∷ []
 listed-more t u from cell p plain listed here others =

@@ -2,8 +2,8 @@
 use Rattle.std.proofs.Common.{◌≡◌, ◌<◌, ◌+◌, ℕ, zero, suc, List, [], ◌∷◌, ◌++◌, Some, length, map, get_or, ap, sym, subst, ◌∙◌, arith}
 use Rattle.std.proofs.lemmas.List.{length-map, get_or_append_left, get_or-append-add, get_or-map}
 use Rattle.std.proofs.Math.Seq.{get_or-append_seam}
-use Rattle.both_tables.specs.CellPlaces.{all_places}
-use Rattle.both_tables.specs.declared.cell_places.CellPlace.{CellPlace}
+use Rattle.tables.specs.CellPlaces.{all_places}
+use Rattle.tables.specs.declared.cell_places.CellPlace.{CellPlace}
 use Rattle.record_lines.specs.Grammar.{FitsEntry}
 use Rattle.record_lines.specs.declared.entry.Entry.{Entry}
 use Rattle.std.specs.Prelude.{slice_get}

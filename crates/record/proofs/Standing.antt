@@ -11,8 +11,8 @@ use Rattle.cache_table.specs.Table.{CacheEntry}
 use Rattle.base.specs.declared.controller.protocol.Protocol.{Protocol}
 use Rattle.base.specs.declared.controller.protocol.Protocol.TheVariants.{Msi, MsiE}
 use Rattle.base.specs.Entries.{HasFewActions}
-use Rattle.base.specs.declared.controller.entry.Entry as table_cell
-use Rattle.base.specs.declared.controller.entry.Entry.TheVariants as table_entry
+use Rattle.base.specs.declared.controller.entry.CellEntry as table_cell
+use Rattle.base.specs.declared.controller.entry.CellEntry.TheVariants as table_entry
 use Rattle.cache_table.specs.declared.state.CacheState.{CacheState}
 use Rattle.cache_table.specs.declared.event.CacheEvent.{CacheEvent}
 use Rattle.directory_table.specs.Keeping as directory_keeping
@@ -22,11 +22,11 @@ use Rattle.directory_table.proofs.Keeping.{table-with as directory-with}
 use Rattle.directory_table.specs.Table.{DirectoryEntry}
 use Rattle.directory_table.specs.declared.state.DirectoryState.{DirectoryState}
 use Rattle.directory_table.specs.declared.event.DirectoryEvent.{DirectoryEvent}
-use Rattle.both_tables.specs.CellPlaces.{all_places, place_number}
-use Rattle.both_tables.specs.Tables.{Tables, baseline_of}
-use Rattle.both_tables.specs.declared.cell_places.CellPlace.{CellPlace}
-use Rattle.both_tables.specs.declared.cell_places.CellPlace.TheVariants as place
-use Rattle.both_tables.proofs.CellPlaces.{some_place, place_at, at-own}
+use Rattle.tables.specs.CellPlaces.{all_places, place_number}
+use Rattle.tables.specs.Tables.{Tables, baseline_of}
+use Rattle.tables.specs.declared.cell_places.CellPlace.{CellPlace}
+use Rattle.tables.specs.declared.cell_places.CellPlace.TheVariants as place
+use Rattle.tables.proofs.CellPlaces.{some_place, place_at, at-own}
 use Rattle.record_lines.specs.declared.cells.Cell.{Cell}
 use Rattle.record_lines.specs.declared.cells.Cell.TheVariants as cell
 use Rattle.record_lines.specs.Cells.{cell_at, is_known, place_of, FitsCell}
@@ -64,7 +64,7 @@ fits-at t u c s here other old new (inl e) =
 fits-at t u c s here other old new (inr ne) = subst FitsCell (sym (other (λ e. ne (ap place_number e)))) old
 
 pub whole-more : (t u : Tables) (c : Cell) → cell_at u (place_of c) ≡ c → ((s : CellPlace) → s ≢ place_of c → cell_at u s ≡ cell_at t s) →
-    cache_keeping.IsTable u.protocol u.cache → directory_keeping.IsTable u.protocol u.directory → AreWhole t → FitsCell c → AreWhole u
+    cache_keeping.IsCacheTable u.protocol u.cache → directory_keeping.IsDirectoryTable u.protocol u.directory → AreWhole t → FitsCell c → AreWhole u
 whole-more t u c here others cache directory whole fits = record {
   cache = cache;
   directory = directory;
@@ -79,18 +79,18 @@ pub directory-here : (t : Tables) (c : Cell) (s : DirectoryState) (e : Directory
     directory_table.cell t.directory s e ≡ x → cell_at t (place_of c) ≡ c
 directory-here t c s e x is here = subst (λ d. cell_at t (place_of d) ≡ d) (sym is) (ap (cell.Directory s e) here)
 
-pub cache-more : (table new : cache_table.Table) (s : CacheState) (e : CacheEvent) (x : CacheEntry) → new ≡ cache_table.with_entry table s e x →
-    cache_keeping.IsTable table.protocol table.cells → cache_keeping.IsTable new.protocol new.cells
-cache-more table new s e x is h = subst (λ (t : cache_table.Table). cache_keeping.IsTable t.protocol t.cells) (sym is) (cache-with table s e x h)
+pub cache-more : (table new : cache_table.CacheTableView) (s : CacheState) (e : CacheEvent) (x : CacheEntry) → new ≡ cache_table.with_entry table s e x →
+    cache_keeping.IsCacheTable table.protocol table.cells → cache_keeping.IsCacheTable new.protocol new.cells
+cache-more table new s e x is h = subst (λ (t : cache_table.CacheTableView). cache_keeping.IsCacheTable t.protocol t.cells) (sym is) (cache-with table s e x h)
 
-pub directory-more : (table new : directory_table.Table) (s : DirectoryState) (e : DirectoryEvent) (x : DirectoryEntry) →
-    new ≡ directory_table.with_entry table s e x → directory_keeping.IsTable table.protocol table.cells → directory_keeping.IsTable new.protocol new.cells
+pub directory-more : (table new : directory_table.DirectoryTableView) (s : DirectoryState) (e : DirectoryEvent) (x : DirectoryEntry) →
+    new ≡ directory_table.with_entry table s e x → directory_keeping.IsDirectoryTable table.protocol table.cells → directory_keeping.IsDirectoryTable new.protocol new.cells
 directory-more table new s e x is h =
-    subst (λ (t : directory_table.Table). directory_keeping.IsTable t.protocol t.cells) (sym is) (directory-with table s e x h)
+    subst (λ (t : directory_table.DirectoryTableView). directory_keeping.IsDirectoryTable t.protocol t.cells) (sym is) (directory-with table s e x h)
 
 -- ---- the protocol's own tables
 
-few_of : {S A : Type 0} → table_cell.Entry S A → Bool
+few_of : {S A : Type 0} → table_cell.CellEntry S A → Bool
 few_of (table_entry.Act next actions) = leb (length actions) 8
 few_of other = true
 
@@ -98,7 +98,7 @@ few : Cell → Bool
 few (cell.Cache s e x) = few_of x
 few (cell.Directory s e x) = few_of x
 
-few_of-fits : {S A : Type 0} (x : table_cell.Entry S A) → few_of x ≡ true → HasFewActions x
+few_of-fits : {S A : Type 0} (x : table_cell.CellEntry S A) → few_of x ≡ true → HasFewActions x
 unfolding few_of
 few_of-fits table_entry.Blank h = tt
 few_of-fits table_entry.Stall h = tt

@@ -6,8 +6,8 @@ use Rattle.std.proofs.lemmas.Grind.{flat_map-append}
 use Rattle.std.proofs.KnownBytes.{Consumes-trans, Consumes-nil}
 use Rattle.std.specs.List.{flat_map}
 use Rattle.std.specs.Io.KnownBytes.{Consumes, IsAtEnd, prepend_known}
-use Rattle.base.specs.Spelling.{words}
-use Rattle.both_tables.specs.CellPlaces.{place_number}
+use Rattle.base.specs.Words.{words}
+use Rattle.tables.specs.CellPlaces.{place_number}
 use Rattle.record_lines.specs.declared.due.Due.{Due}
 use Rattle.record_lines.specs.declared.due.Due.TheVariants.{Header, ProtocolLine, ShapeLine, SeatsLine, OpeningLine, CellCount, CellLine, EntryCount}
 use Rattle.record_lines.specs.declared.due.Due.TheVariants.{EntryLine, EndLine, Nothing}
@@ -15,15 +15,15 @@ use Rattle.record_lines.specs.declared.fault.ReadKind.{ReadKind}
 use Rattle.record_lines.specs.declared.fault.ReadKind.TheVariants.{BadHeader, BadLine, Truncated, CountDiffers, BadOutcome, OverLimit, NoMemory, Device}
 use Rattle.record_lines.specs.declared.fault.ReadKind.TheVariants.{UnknownProtocol}
 use Rattle.base.specs.Extent.{Extent}
-use Rattle.record_lines.specs.declared.due.Form.{Form}
+use Rattle.record_lines.specs.declared.due.TextHead.{TextHead}
 use Rattle.record_lines.specs.declared.version.Version.{Version}
 use Rattle.record_lines.specs.declared.version.Version.TheVariants.{One, Two}
-use Rattle.record.specs.Versions.{header_leads, shape_leads_in}
+use Rattle.record_lines.specs.Versions.{header_leads, shape_leads_in}
 use Rattle.record.specs.declared.reader.Reader.{Reader}
 use Rattle.record_lines.specs.Cells.{place_of}
 use Rattle.record_lines.specs.Grammar.{cells_due, entries_due, Leads, Follow}
 use Rattle.record_lines.specs.Refused.{ended, limit, BeginsFaulty, HasNoEnd, IsFaultOfLine, IsUnfinished, IsFaultOfRest, IsRefused, IsWellFormed}
-use Rattle.record.specs.Text.{line}
+use Rattle.record_lines.specs.Text.{line}
 use Rattle.record.specs.View.{RecordingView}
 use Rattle.record.specs.declared.draft.Draft.{Draft}
 use Rattle.record.specs.inner.Drafts.{kept, told_at, with_told, lines_before, lines_left, HasRead, HasTakenLine, IsReadTo, IsTaken, Kept}
@@ -250,20 +250,20 @@ taken-text tells before left reader h done none = record {
 
 -- ---- each line leaves fewer
 
-fewer-cells : (f : Form) (n from : ℕ) → lines_left (cells_due f n from) < n + 1000005
+fewer-cells : (f : TextHead) (n from : ℕ) → lines_left (cells_due f n from) < n + 1000005
 fewer-cells f zero from = omega arith
 fewer-cells f (suc n) from = omega arith
 
-fewer-entries : (f : Form) (n : ℕ) → lines_left (entries_due f n) < n + 3
+fewer-entries : (f : TextHead) (n : ℕ) → lines_left (entries_due f n) < n + 3
 fewer-entries f zero = omega arith
 fewer-entries f (suc n) = omega arith
 
-fewer-cells-behind : (f : Form) (left from : ℕ) → lines_left (cells_due f (left - 1) from) < left + 1000004
+fewer-cells-behind : (f : TextHead) (left from : ℕ) → lines_left (cells_due f (left - 1) from) < left + 1000004
 fewer-cells-behind f zero from = omega arith
 fewer-cells-behind f (suc n) from =
     let is : suc n - 1 ≡ n = omega arith in omega (arith, ap (λ k. lines_left (cells_due f k from)) is, fewer-cells f n from)
 
-fewer-entries-behind : (f : Form) (left : ℕ) → lines_left (entries_due f (left - 1)) < left + 2
+fewer-entries-behind : (f : TextHead) (left : ℕ) → lines_left (entries_due f (left - 1)) < left + 2
 fewer-entries-behind f zero = omega arith
 fewer-entries-behind f (suc n) =
     let is : suc n - 1 ≡ n = omega arith in omega (arith, ap (λ k. lines_left (entries_due f k)) is, fewer-entries f n)
@@ -272,7 +272,7 @@ fewer-header : (v : Version) → lines_left (header_leads v) < 1000194
 fewer-header One = omega arith
 fewer-header Two = omega arith
 
-fewer-shape : (v : Version) (f : Form) (shape : Extent) → lines_left (shape_leads_in v f shape) < 1000192
+fewer-shape : (v : Version) (f : TextHead) (shape : Extent) → lines_left (shape_leads_in v f shape) < 1000192
 fewer-shape One f shape = omega arith
 fewer-shape Two f shape = omega arith
 

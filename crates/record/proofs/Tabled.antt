@@ -4,17 +4,17 @@ use Rattle.std.specs.List.{range_with_len}
 use Rattle.std.proofs.lemmas.List.{same_lists, get_or_default}
 use Rattle.std.proofs.lemmas.List.FromFn.{get_or-range_with_len}
 use Rattle.base.specs.Cells.{Cells, HasSize, cell_of}
-use Rattle.base.specs.declared.controller.entry.Entry.{Entry}
-use Rattle.base.specs.declared.controller.entry.Entry.TheVariants.{Blank}
+use Rattle.base.specs.declared.controller.entry.CellEntry.{CellEntry}
+use Rattle.base.specs.declared.controller.entry.CellEntry.TheVariants.{Blank}
 use Rattle.cache_table.specs.Baseline as cache_baseline
 use Rattle.cache_table.specs.Table as cache_table
 use Rattle.cache_table.specs.Names.{first_state, first_event}
 use Rattle.directory_table.specs.Baseline as directory_baseline
 use Rattle.directory_table.specs.Table as directory_table
 use Rattle.directory_table.specs.Names as directory_names
-use Rattle.both_tables.specs.Tables.{Tables}
-use Rattle.both_tables.specs.declared.cell_places.CellPlace.{CellPlace}
-use Rattle.both_tables.specs.declared.cell_places.CellPlace.TheVariants as place
+use Rattle.tables.specs.Tables.{Tables}
+use Rattle.tables.specs.declared.cell_places.CellPlace.{CellPlace}
+use Rattle.tables.specs.declared.cell_places.CellPlace.TheVariants as place
 use Rattle.record_lines.specs.declared.cells.Cell.{Cell}
 use Rattle.record_lines.specs.declared.cells.Cell.TheVariants as cell
 use Rattle.record_lines.specs.Cells.{cell_at}
@@ -46,7 +46,7 @@ same-cell : {S E A : Type 0} (states : List S) (events : List E) (row : S → �
 same-cell {S} {E} {A} states events row column rows columns places c d same i j low below =
     let state : S = get_or states i places.some_state in
     let event : E = get_or events j places.some_event in
-    let blank : Entry S A = Blank in
+    let blank : CellEntry S A = Blank in
     let in_row : row state ≡ i = found row states rows i places.some_state places.rows_count low in
     let in_column : column event ≡ j = found column events columns j places.some_event places.columns_count below in
     ap (λ k. get_or (get_or c k []) j blank) (sym in_row)

@@ -5,12 +5,13 @@ use Rattle.std.specs.Prelude.{Option, Some, None, IfOk, OnOk}
 use Rattle.std.proofs.lemmas.Bool.{cases_eq}
 use Rattle.std.proofs.lemmas.Result.{IfOk-weaker}
 use Rattle.base.specs.Extent.{Extent}
-use Rattle.both_tables.specs.CellPlaces.{place_number}
-use Rattle.record_lines.specs.declared.due.Form.{Form}
+use Rattle.tables.specs.CellPlaces.{place_number}
+use Rattle.record_lines.specs.declared.due.TextHead.{TextHead}
 use Rattle.record_lines.specs.declared.version.Version.{Version}
 use Rattle.record_lines.specs.declared.version.Version.TheVariants.{One, Two}
 use Rattle.record_lines.specs.Refused.{limit}
-use Rattle.record.specs.Versions.{header_leads, shape_leads_in, HasTextIn}
+use Rattle.record_lines.specs.Versions.{header_leads, shape_leads_in}
+use Rattle.record.specs.Versions.{HasTextIn}
 use Rattle.record.specs.declared.draft.Draft.{Draft}
 use Rattle.record_lines.specs.declared.fault.ReadKind.{ReadKind}
 use Rattle.record_lines.specs.declared.due.Due.{Due}
@@ -23,8 +24,7 @@ use Rattle.record_lines.specs.Grammar.{cells_due, entries_due, Leads}
 use Rattle.record.specs.View.{AreOwners, RecordingView}
 use Rattle.record.specs.Recordable.{IsRecordable}
 use Rattle.record.specs.Text.{told}
-use Rattle.record.specs.inner.Drafts.{kept, recorded, told_at, with_told, Kept, lines_left}
-use Rattle.record.specs.inner.Drafts.{HasRead, HasRoom, HasTakenEntry, HasTakenLine, IsReadTo, IsTaken}
+use Rattle.record.specs.inner.Drafts.{kept, recorded, told_at, with_told, Kept, lines_left, HasRead, HasRoom, HasTakenEntry, HasTakenLine, IsReadTo, IsTaken}
 use Rattle.record.specs.Telling.{HasRoomUpTo}
 use Rattle.record.specs.inner.Readers.{IsReady}
 use Rattle.record_lines.specs.Reading.{IsTakenOff}
@@ -99,11 +99,11 @@ front-header : (v : Version) → IsInFront (header_leads v)
 front-header One = tt
 front-header Two = tt
 
-front-shape : (v : Version) (f : Form) (shape : Extent) → IsInFront (shape_leads_in v f shape)
+front-shape : (v : Version) (f : TextHead) (shape : Extent) → IsInFront (shape_leads_in v f shape)
 front-shape One f shape = tt
 front-shape Two f shape = tt
 
-front-cells : (f : Form) (n from : ℕ) → IsInFront (cells_due f n from)
+front-cells : (f : TextHead) (n from : ℕ) → IsInFront (cells_due f n from)
 front-cells f zero from = tt
 front-cells f (suc n) from = tt
 
@@ -153,11 +153,11 @@ taken-in_front tells due at old new entries r line result is front taken h =
     }) taken
 
 -- behind the count of entries they are told of
-told-behind : (f : Form) (n : ℕ) (r : Kept) → told_at (entries_due f n) r ≡ Some (recorded r)
+told-behind : (f : TextHead) (n : ℕ) (r : Kept) → told_at (entries_due f n) r ≡ Some (recorded r)
 told-behind f zero r = refl
 told-behind f (suc n) r = refl
 
-pub taken-entry_count : {N : Type 0} (tells : N → Option RecordingView → Type 0) (due : Due) (f : Form) (draft : Draft) (old new : N) (r : Kept)
+pub taken-entry_count : {N : Type 0} (tells : N → Option RecordingView → Type 0) (due : Due) (f : TextHead) (draft : Draft) (old new : N) (r : Kept)
     (line : List (List ℕ)) (result : Result Due ReadKind) → due ≡ EntryCount f →
     IfOk result (λ next. IsTaken (EntryCount f) (kept draft) line next (kept draft)) → OnOk result (tells new (Some (recorded (kept draft)))) →
     HasRead tells due draft old r → IfOk result (λ next. HasTakenLine tells due r line next draft new)
@@ -177,7 +177,7 @@ taken-entry_count tells due f draft old new r line (Ok next) is t told h =
 taken-entry_count tells due f draft old new r line (Err kind) is t told h = tt
 
 -- and so they are behind each of them
-pub taken-entry : {N : Type 0} (tells : N → Option RecordingView → Type 0) (due : Due) (f : Form) (left : ℕ) (draft : Draft) (old new : N) (r : Kept)
+pub taken-entry : {N : Type 0} (tells : N → Option RecordingView → Type 0) (due : Due) (f : TextHead) (left : ℕ) (draft : Draft) (old new : N) (r : Kept)
     (line : List (List ℕ)) (result : Result Due ReadKind) → due ≡ EntryLine f left →
     (IsReadTo (EntryLine f left) r → tells old (Some (recorded r)) → IfOk result (λ next. HasTakenEntry tells (EntryLine f left) r line next new)) →
     HasRead tells due draft old r → IfOk result (λ next. HasTakenLine tells due r line next draft new)
@@ -194,7 +194,7 @@ taken-entry tells due f left draft old new r line result is made h =
       };
     }) (made (subst (λ (d : Due). IsReadTo d r) is h.read) (subst (λ (d : Due). tells old (told_at d r)) is h.told))
 
-pub taken-end : {N : Type 0} (tells : N → Option RecordingView → Type 0) (due : Due) (f : Form) (draft : Draft) (entries : N) (r : Kept)
+pub taken-end : {N : Type 0} (tells : N → Option RecordingView → Type 0) (due : Due) (f : TextHead) (draft : Draft) (entries : N) (r : Kept)
     (line : List (List ℕ)) (result : Result Due ReadKind) → due ≡ EndLine f → IfOk result (Leads (EndLine f) line) →
     HasRead tells due draft entries r → IfOk result (λ next. HasTakenLine tells due r line next draft entries)
 taken-end tells due f draft entries r line result is ends h =

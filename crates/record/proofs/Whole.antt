@@ -6,14 +6,15 @@ use Rattle.std.proofs.lemmas.List.{append-nil, length-map}
 use Rattle.std.proofs.lemmas.Grind.{flat_map-append}
 use Rattle.std.specs.List.{flat_map}
 use Rattle.std.specs.Fmt.{decimal}
-use Rattle.both_tables.specs.CellPlaces.{all_places}
+use Rattle.tables.specs.CellPlaces.{all_places}
 use Rattle.record.specs.View.{RecordingView}
 use Rattle.record_lines.specs.Cells.{cell_words}
-use Rattle.record.specs.Text.{text, line, head_lines, header_words, shape_words, cells_words, changed_cells, entries_words, told, told_words, end_words}
+use Rattle.record.specs.Text.{text, head_lines, changed_cells, told}
+use Rattle.record_lines.specs.Text.{line, header_words, shape_words, cells_words, entries_words, told_words, end_words}
 use Rattle.record.specs.inner.Pieces.{IsOut, IsCutOff, pieces, head_piece, value_piece, cells_piece, cell_piece, entries_piece, told_piece, end_piece}
 use Rattle.record_lines.specs.declared.told.Told.{Told}
 use Rattle.record_lines.specs.declared.version.Version.TheVariants.{Two}
-use Rattle.record.specs.Versions.{protocol_words, seats_words}
+use Rattle.record_lines.specs.Versions.{protocol_words, seats_words}
 use Rattle.record.proofs.Owners.{told-length}
 use Rattle.record.proofs.Changed.{changed-lines}
 use Rattle.record.proofs.Outs.{cut-same, out-same}

@@ -1,10 +1,10 @@
 -- The text of a recording: its lines, and the words of each.
-pub use Rattle.record_lines.specs.Text.{line, header_words, shape_words, opening_words, cells_words, entries_words, entry_words, by_words, told_words, end_words}
+use Rattle.record_lines.specs.Text.{line, header_words, shape_words, opening_words, cells_words, entries_words, told_words, end_words}
 use Rattle.std.specs.Prelude.{ℕ, List, [], ◌∷◌, ◌++◌, Bool, Some, None, map, length, filter, not}
 use Rattle.std.specs.List.{flat_map}
-use Rattle.both_tables.specs.CellPlaces.{all_places}
-use Rattle.both_tables.specs.Tables.{Tables, baseline_of}
-use Rattle.both_tables.specs.declared.cell_places.CellPlace.{CellPlace}
+use Rattle.tables.specs.CellPlaces.{all_places}
+use Rattle.tables.specs.Tables.{Tables, baseline_of}
+use Rattle.tables.specs.declared.cell_places.CellPlace.{CellPlace}
 use Rattle.record_lines.specs.declared.entry.Entry.{Entry}
 use Rattle.record_lines.specs.declared.cells.Cell.{Cell}
 use Rattle.record_lines.specs.Cells.{cell_at, cell_words, is_same}

@@ -1,6 +1,5 @@
 -- Which recordings have a text of which version.
-pub use Rattle.record_lines.specs.Versions.{version_word, most_bytes, most_caches, most_blocks, protocol_words, seats_words, protocol_lines, seats_lines, form}
-pub use Rattle.record_lines.specs.Versions.{header_leads, shape_leads_in, IsShapeIn, CanTell}
+use Rattle.record_lines.specs.Versions.{IsShapeIn, CanTell}
 use Rattle.record_lines.specs.declared.version.Version.{Version}
 use Rattle.record.specs.View.{RecordingView}
 

@@ -3,7 +3,7 @@ use Rattle.std.specs.Prelude.{◌≡◌, ◌≢◌, ◌<◌, ◌≤◌, ℕ, Lis
 use Rattle.base.specs.Extent.{Extent, IsWithinLimits}
 use Rattle.base.specs.declared.step.Step.{Step}
 use Rattle.base.specs.declared.step.Outcome.{Outcome}
-use Rattle.both_tables.specs.Tables.{Tables}
+use Rattle.tables.specs.Tables.{Tables}
 use Rattle.machine.specs.Machine.{after, opened}
 use Rattle.record_lines.specs.declared.entry.Entry.{Entry}
 
@@ -24,7 +24,7 @@ pub record AreOwners (seats : ℕ) (owners : List ℕ) (entries : List Entry) : 
   pub within : All (λ seat. seat < seats) owners
 
 -- a shape within the limits, one opening value for each block, and at most a million entries
-pub record IsKept (r : RecordingView) : Type 0 where
+pub record IsRecordKept (r : RecordingView) : Type 0 where
   pub within : IsWithinLimits r.shape
   pub each : length r.opening ≡ r.shape.blocks
   pub few : length r.entries ≤ 1000000

@@ -1,9 +1,9 @@
 ghost use Rattle.std.specs.Prelude.{◌≡◌, ◌≤◌, ◌+◌, ℕ, Some, None, IfOk, IfErr, OnOk};
-ghost use Rattle.base.specs.Spelling.{words};
+ghost use Rattle.base.specs.Words.{words};
 ghost use Rattle.record_lines.specs.declared.due.Due.TheVariants as due;
 ghost use Rattle.record_lines.specs.Grammar.{FitsTold, Leads};
 ghost use Rattle.record_lines.specs.Refused.{IsFaultOfLine};
-ghost use Rattle.record.specs.Text.{told_words};
+ghost use Rattle.record_lines.specs.Text.{told_words};
 ghost use Rattle.record.specs.inner.Drafts.{Kept, kept, recorded, HasRead, HasRoom, HasTakenEntry, HasTakenLine, IsReadTo, IsTaken};
 ghost use Rattle.record.specs.inner.Holding.{holds};
 ghost use Rattle.record_lines.specs.Reading.{IsFaultOfTold};
@@ -13,12 +13,12 @@ use crate::entries::{Entries, KeptEntries};
 use crate::reading::{listed_cell, with_cell};
 use crate::recording::{MOST_ENTRIES, MOST_SEATS, Recording};
 use base::{MOST_BLOCKS, NoMemory, Shape};
-use both_tables::Tables;
 use record_lines::{
-    Due, Form, ReadKind, Told, Version, count_of, is_end, most_cells, opening_of, protocol_of,
+    Due, ReadKind, TextHead, Told, Version, count_of, is_end, most_cells, opening_of, protocol_of,
     shape_of, told_of, version_of,
 };
 use std::alloc::Global;
+use tables::Tables;
 
 /// What has been read of a recording in front of its entries.
 #[derive(Drop)]
@@ -101,7 +101,7 @@ impl Draft {
     {
         let protocol = protocol_of(line)?;
         self.tables = Tables::baseline_of(protocol);
-        Ok(Due::ShapeLine(Form {
+        Ok(Due::ShapeLine(TextHead {
             version: Version::Two,
             protocol,
             seats: 0,
@@ -109,7 +109,7 @@ impl Draft {
     }
 
     /// Takes the line of the shape.
-    fn accept_shape(&mut self, line: &[u8], form: Form) -> Result<Due, ReadKind>
+    fn accept_shape(&mut self, line: &[u8], form: TextHead) -> Result<Due, ReadKind>
         requires read { IsReadTo (due.ShapeLine form) (kept self.old) }
         ensures ok { IfOk result (λ next. IsTaken (due.ShapeLine form) (kept self.old) (words line.now) next (kept self.new)) }
         ensures err { IfErr result (IsFaultOfLine (due.ShapeLine form) (words line.now)) }
@@ -120,14 +120,14 @@ impl Draft {
     }
 
     /// Takes the line of the seats.
-    fn accept_seats(&mut self, line: &[u8], form: Form, shape: Shape) -> Result<Due, ReadKind>
+    fn accept_seats(&mut self, line: &[u8], form: TextHead, shape: Shape) -> Result<Due, ReadKind>
         requires read { IsReadTo (due.SeatsLine form shape) (kept self.old) }
         ensures ok { IfOk result (λ next. IsTaken (due.SeatsLine form shape) (kept self.old) (words line.now) next (kept self.new)) }
         ensures err { IfErr result (IsFaultOfLine (due.SeatsLine form shape) (words line.now)) }
         ensures room { HasRoom self.old → HasRoom self.new }
     {
         self.seats = count_of(line, b"seats".as_slice(), MOST_SEATS)?;
-        let form = Form {
+        let form = TextHead {
             version: form.version,
             protocol: form.protocol,
             seats: self.seats,
@@ -136,7 +136,7 @@ impl Draft {
     }
 
     /// Takes the line of the opening values.
-    fn accept_opening(&mut self, line: &[u8], form: Form, shape: Shape) -> Result<Due, ReadKind>
+    fn accept_opening(&mut self, line: &[u8], form: TextHead, shape: Shape) -> Result<Due, ReadKind>
         requires read { IsReadTo (due.OpeningLine form shape) (kept self.old) }
         requires room { HasRoom self.old }
         ensures ok { IfOk result (λ next. IsTaken (due.OpeningLine form shape) (kept self.old) (words line.now) next (kept self.new)) }
@@ -151,7 +151,7 @@ impl Draft {
     fn accept_cell(
         &mut self,
         line: &[u8],
-        form: Form,
+        form: TextHead,
         left: u32,
         from: usize,
     ) -> Result<Due, ReadKind>
@@ -160,7 +160,7 @@ impl Draft {
         ensures err { IfErr result (IsFaultOfLine (due.CellLine form left from) (words line.now)) }
         ensures room { HasRoom self.old → HasRoom self.new }
     {
-        let Some(cell) = listed_cell(line, form.protocol, from) else {
+        let Some(cell) = listed_cell(line, form.protocol, &self.tables, from) else {
             return Err(ReadKind::BadLine);
         };
         self.tables = with_cell(self.tables, &cell);
@@ -171,7 +171,7 @@ impl Draft {
     fn accept_entry_count<N: Entries>(
         &self,
         line: &[u8],
-        form: Form,
+        form: TextHead,
         entries: &mut N,
     ) -> Result<Due, ReadKind>
         requires read { IsReadTo (due.EntryCount form) (kept self.now) }
@@ -205,7 +205,7 @@ impl Draft {
 /// Takes the line of an entry, of which so many are still to come.
 fn accept_entry<N: Entries>(
     line: &[u8],
-    form: Form,
+    form: TextHead,
     left: u32,
     entries: &mut N,
 ) -> Result<Due, ReadKind>
@@ -222,7 +222,7 @@ fn accept_entry<N: Entries>(
 }
 
 /// How many cells are due.
-fn cell_count_due(line: &[u8], form: Form) -> Result<Due, ReadKind>
+fn cell_count_due(line: &[u8], form: TextHead) -> Result<Due, ReadKind>
     ensures ok { IfOk result (Leads (due.CellCount form) (words line.now)) }
     ensures err { IfErr result (IsFaultOfLine (due.CellCount form) (words line.now)) }
 {
@@ -231,7 +231,7 @@ fn cell_count_due(line: &[u8], form: Form) -> Result<Due, ReadKind>
 }
 
 /// How many entries are due.
-fn entry_count_due(line: &[u8], form: Form) -> Result<Due, ReadKind>
+fn entry_count_due(line: &[u8], form: TextHead) -> Result<Due, ReadKind>
     ensures ok { IfOk result (Leads (due.EntryCount form) (words line.now)) }
     ensures err { IfErr result (IsFaultOfLine (due.EntryCount form) (words line.now)) }
 {
@@ -257,7 +257,7 @@ fn told_due(line: &[u8], seats: u32) -> Result<Told, ReadKind>
 /// Whether this is the last line.
 #[cold]
 #[inline(never)]
-fn end_due(line: &[u8], form: Form) -> Result<Due, ReadKind>
+fn end_due(line: &[u8], form: TextHead) -> Result<Due, ReadKind>
     requires few { form.seats ≤ 64 }
     ensures ok { IfOk result (Leads (due.EndLine form) (words line.now)) }
     ensures err { IfErr result (IsFaultOfLine (due.EndLine form) (words line.now)) }

@@ -1,9 +1,9 @@
 //! What becomes of the entries of a text as they are read.
 
 use base::{NoMemory, Shape};
-use both_tables::Tables;
 use record_lines::{Entry, Told};
 use std::alloc::Global;
+use tables::Tables;
 
 /// What takes the entries of a text, one after the other. It may keep less of them than the recording of which it tells.
 pub trait Entries: Drop {

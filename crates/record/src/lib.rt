@@ -1,4 +1,5 @@
-//! Recordings: the steps that a world has made and what came of them, as values and as text.
+//! Recordings: the steps that a world has made, what came of them and who owns them, as values and as text of either
+//! version.
 #![tactic(auto)]
 
 mod draft;

@@ -1,6 +1,6 @@
 ghost use Rattle.std.specs.Prelude.{◌≡◌, ◌≢◌, ◌≤◌, ◌<◌, ◌+◌, ◌↔◌, ◌∷◌, [], ℕ, List, Option, None, IfOk, IfErr, OnOk, OnErr, IsTrue, true, false};
 ghost use Rattle.std.specs.Io.KnownBytes.{IsAtEnd};
-ghost use Rattle.base.specs.Spelling.{words};
+ghost use Rattle.base.specs.Words.{words};
 ghost use Rattle.record_lines.specs.declared.due.Due.TheVariants as due;
 ghost use Rattle.record_lines.specs.Refused.{IsFaultOfLine, IsFaultOfRest, IsRefused, IsWellFormed};
 ghost use Rattle.record.specs.inner.Drafts.{Kept, recorded, lines_left, HasRead, HasTakenLine};

@@ -1,17 +1,18 @@
 ghost use Rattle.std.specs.Prelude.{◌≡◌, ◌≢◌, IfOk, IfErr, OnOk, MatchOption, MatchResult, Some, None, true};
-ghost use Rattle.both_tables.specs.declared.cell_places.CellPlace.{CellPlace};
+ghost use Rattle.tables.specs.declared.cell_places.CellPlace.{CellPlace};
 ghost use Rattle.record.specs.TextRead.{HasTold, IsReadFault, IsTextRead};
 ghost use Rattle.record.specs.Versions.{HasTextIn};
 ghost use Rattle.record_lines.specs.declared.version.Version.{Version};
-ghost use Rattle.base.specs.Spelling.{words};
+ghost use Rattle.base.specs.Words.{words};
 ghost use Rattle.record_lines.specs.declared.cells.Cell as cells;
 ghost use Rattle.record_lines.specs.declared.due.Due.TheVariants.{Header};
 ghost use Rattle.record_lines.specs.Cells.{cell_at, cell_words, is_known, place_of, FitsCell};
-ghost use Rattle.record_lines.specs.Grammar.{IsListed};
+ghost use Rattle.record_lines.specs.Grammar.{MayBeListed};
 ghost use Rattle.record.specs.View.{RecordingView};
 ghost use Rattle.record.specs.Recordable.{AreWhole, IsRecordable};
 ghost use Rattle.record_lines.specs.Refused.{IsOutside, IsRefused, IsWellFormed};
 ghost use Rattle.record.specs.Text.{text};
+ghost use Rattle.record.specs.inner.Drafts.{IsBaselineFrom};
 ghost use Rattle.record.specs.inner.Readers.{IsReadWhole};
 
 use crate::entries::{Entries, KeptEntries};
@@ -19,9 +20,9 @@ use crate::reader::Reader;
 use crate::recording::Recording;
 use base::Source;
 use base::controller::Protocol;
-use both_tables::Tables;
 use record_lines::{Cell, ReadFault, ReadKind, cell_of};
 use std::alloc::Global;
+use tables::Tables;
 
 impl Recording {
     /// The recording whose text a source gives, in whatever pieces it comes.
@@ -95,11 +96,18 @@ fn read_text<S: Source, N: Entries>(
 }
 
 /// The cell of a line, if this protocol has all that it names, its place is of this number or a higher one, and it differs
-/// from the protocol's own.
-pub(crate) fn listed_cell(line: &[u8], protocol: Protocol, from: usize) -> Option<Cell>
+/// from the protocol's own. From that place on the tables that were read so far are the protocol's own.
+pub(crate) fn listed_cell(
+    line: &[u8],
+    protocol: Protocol,
+    read: &Tables,
+    from: usize,
+) -> Option<Cell>
+    requires protocol { read.now.protocol ≡ protocol }
+    requires own { IsBaselineFrom from read.now }
     ensures { MatchOption result
-        ((cell : cells.Cell) → IsListed protocol from cell → words line.now ≢ cell_words cell)
-        (λ cell. IsListed protocol from cell × (words line.now ≡ cell_words cell)) }
+        ((cell : cells.Cell) → MayBeListed protocol from cell → words line.now ≢ cell_words cell)
+        (λ cell. MayBeListed protocol from cell × (words line.now ≡ cell_words cell)) }
 {
     let cell = cell_of(line)?;
     if !cell.is_known(protocol) {
@@ -108,7 +116,7 @@ pub(crate) fn listed_cell(line: &[u8], protocol: Protocol, from: usize) -> Optio
     if cell.place().number() < from {
         return None;
     }
-    if cell.is_in(&Tables::baseline_of(protocol)) {
+    if cell.is_in(read) {
         return None;
     }
     Some(cell)

@@ -1,9 +1,9 @@
 use base::controller::Protocol;
 use base::{NoMemory, Shape};
-use both_tables::Tables;
 use record_lines::{Entry, Told};
 use std::alloc::Global;
 use std::marker::Model;
+use tables::Tables;
 use thiserror::Error;
 use world::OpenFault;
 
@@ -52,7 +52,7 @@ impl Drop for Recording {
 }
 
 impl Model for Recording {
-    ghost use Rattle.record.specs.View.{RecordingView, IsKept};
+    ghost use Rattle.record.specs.View.{RecordingView, IsRecordKept};
 
     ghost Value = { RecordingView };
 
@@ -65,7 +65,7 @@ impl Model for Recording {
       owners = r.owners.items;
     } };
 
-    ghost invariant = { λ r. IsKept (record {
+    ghost invariant = { λ r. IsRecordKept (record {
       seats = r.seats;
       shape = r.shape;
       tables = r.tables;

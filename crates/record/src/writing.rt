@@ -1,9 +1,9 @@
 ghost use Rattle.std.specs.Prelude.{◌≡◌, ◌≤◌, ◌<◌, ◌+◌, ◌^◌, [], IfOk, IfErr, OnOk, slice_index_or, length, take};
 ghost use Rattle.std.specs.Io.KnownBytes.{Appends};
 ghost use Rattle.base.specs.Ends.{MarksFault};
-ghost use Rattle.both_tables.specs.Tables.{baseline_of};
+ghost use Rattle.tables.specs.Tables.{baseline_of};
 ghost use Rattle.record_lines.specs.Cells.{cell_at, FitsCell, IsInWhole};
-ghost use Rattle.record.specs.View.{IsKept};
+ghost use Rattle.record.specs.View.{IsRecordKept};
 ghost use Rattle.record_lines.specs.declared.version.Version.TheVariants as Version;
 ghost use Rattle.record.specs.Recordable.{AreWhole, IsRecordable};
 ghost use Rattle.record.specs.Text.{text, changed_cells, is_changed};
@@ -14,8 +14,8 @@ use crate::recording::Recording;
 use base::controller::Protocol;
 use base::text::Text;
 use base::{Shape, Sink, put_all};
-use both_tables::{CELLS, CellPlace, Tables};
 use record_lines::{Cell, cell_line, told_line};
+use tables::{CELLS, CellPlace, Tables};
 use thiserror::Error;
 
 /// A sink failed before it had all of a recording's text.
@@ -52,7 +52,7 @@ impl Recording {
     fn count_of_pieces(&self) -> usize
         ensures count { result ≡ length (pieces self.now) }
         ensures few { result ≤ 1065724 }
-        ensures kept { IsKept self.now }
+        ensures kept { IsRecordKept self.now }
     {
         self.opening().len() + CELLS + self.entries().len() + 4
     }

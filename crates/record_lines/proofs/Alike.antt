@@ -13,14 +13,14 @@ use Rattle.directory_table.specs.Baseline as directory_baseline
 use Rattle.directory_table.specs.Names as directory
 use Rattle.directory_table.specs.Table as directory_table
 use Rattle.directory_table.specs.inner.Standing as directory_standing
-use Rattle.both_tables.specs.CellPlaces.{place_number}
-use Rattle.both_tables.specs.Tables.{Tables, baseline_of}
-use Rattle.both_tables.specs.declared.cell_places.CellPlace.{CellPlace}
-use Rattle.both_tables.specs.declared.cell_places.CellPlace.TheVariants as place
+use Rattle.tables.specs.CellPlaces.{place_number}
+use Rattle.tables.specs.Tables.{Tables, baseline_of}
+use Rattle.tables.specs.declared.cell_places.CellPlace.{CellPlace}
+use Rattle.tables.specs.declared.cell_places.CellPlace.TheVariants as place
 use Rattle.record_lines.specs.declared.cells.Cell.{Cell}
 use Rattle.record_lines.specs.declared.cells.Cell.TheVariants as cell
 use Rattle.record_lines.specs.Cells.{cell_at, cell_words, is_known, is_same, place_of}
-use Rattle.record_lines.specs.Grammar.{IsListed}
+use Rattle.record_lines.specs.Grammar.{MayBeListed}
 use Rattle.record_lines.specs.Reading.{IsNoCell}
 
 -- cells that are spelled alike are the same
@@ -47,14 +47,14 @@ pub same-place : (c d : Cell) → cell_words c ≡ cell_words d → place_of c �
 same-place c d h = ap place_of (cell-same c d h)
 
 -- what may be listed of one of them may be listed of the other
-pub in-order : (p : Protocol) (from : ℕ) (c d : Cell) → cell_words c ≡ cell_words d → IsListed p from d → from ≤ place_number (place_of c)
+pub in-order : (p : Protocol) (from : ℕ) (c d : Cell) → cell_words c ≡ cell_words d → MayBeListed p from d → from ≤ place_number (place_of c)
 in-order p from c d h listed = subst (λ e. from ≤ place_number (place_of e)) (sym (cell-same c d h)) listed.in_order
 
-pub differs : (p : Protocol) (from : ℕ) (c d : Cell) → cell_words c ≡ cell_words d → IsListed p from d →
+pub differs : (p : Protocol) (from : ℕ) (c d : Cell) → cell_words c ≡ cell_words d → MayBeListed p from d →
     is_same c (cell_at (baseline_of p) (place_of c)) ≡ false
 differs p from c d h listed = subst (λ e. is_same e (cell_at (baseline_of p) (place_of e)) ≡ false) (sym (cell-same c d h)) listed.differs
 
-pub known : (p : Protocol) (from : ℕ) (c d : Cell) → cell_words c ≡ cell_words d → IsListed p from d → is_known p c ≡ true
+pub known : (p : Protocol) (from : ℕ) (c d : Cell) → cell_words c ≡ cell_words d → MayBeListed p from d → is_known p c ≡ true
 known p from c d h listed = subst (λ e. is_known p e ≡ true) (sym (cell-same c d h)) listed.known
 
 not-false : (b : Bool) → not b ≡ false → b ≡ true

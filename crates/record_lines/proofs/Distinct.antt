@@ -1,7 +1,7 @@
 -- Bytes that are refused are refused in one place, as one fault.
 use Rattle.std.proofs.Common.{◌≡◌, ◌<◌, ◌+◌, ℕ, List, [], ◌∷◌, ◌++◌, length, refl, ap, sym, subst, ◌∙◌, arith, suc, Option, Some, None, append_assoc}
 use Rattle.std.specs.List.{flat_map}
-use Rattle.base.specs.Spelling.{words}
+use Rattle.base.specs.Words.{words}
 use Rattle.record_lines.specs.declared.fault.ReadKind.{ReadKind}
 use Rattle.record_lines.specs.declared.fault.ReadKind.TheVariants.{BadHeader, BadLine, Truncated, CountDiffers, BadOutcome, OverLimit, NoMemory, Device}
 use Rattle.record_lines.specs.declared.fault.ReadKind.TheVariants.{UnknownProtocol}

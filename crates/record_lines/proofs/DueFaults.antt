@@ -3,7 +3,7 @@ use Rattle.std.proofs.Common.{ℕ, List, codes}
 use Rattle.base.specs.Extent.{Extent}
 use Rattle.record_lines.specs.Refused.{IsFaultOfLine}
 use Rattle.record_lines.specs.declared.due.Due.TheVariants.{ProtocolLine, ShapeLine, SeatsLine, OpeningLine}
-use Rattle.record_lines.specs.declared.due.Form.{Form}
+use Rattle.record_lines.specs.declared.due.TextHead.{TextHead}
 use Rattle.record_lines.specs.declared.fault.ReadKind.{ReadKind}
 use Rattle.record_lines.specs.declared.fault.ReadKind.TheVariants.{BadHeader, BadLine, Truncated, CountDiffers, BadOutcome, OverLimit, NoMemory, Device}
 use Rattle.record_lines.specs.declared.fault.ReadKind.TheVariants.{UnknownProtocol}
@@ -27,7 +27,7 @@ protocol-fault line BadLine h = record {
   no_bad_outcome = λ no. no;
 }
 
-pub shape-fault : (f : Form) (line : List (List ℕ)) (kind : ReadKind) → IsBadShape f.version line kind → IsFaultOfLine (ShapeLine f) line kind
+pub shape-fault : (f : TextHead) (line : List (List ℕ)) (kind : ReadKind) → IsBadShape f.version line kind → IsFaultOfLine (ShapeLine f) line kind
 shape-fault f line OverLimit h = h
 shape-fault f line BadHeader h = absurd h
 shape-fault f line CountDiffers h = absurd h
@@ -45,7 +45,7 @@ shape-fault f line BadLine h = record {
   no_bad_outcome = λ no. no;
 }
 
-pub seats-fault : (f : Form) (shape : Extent) (line : List (List ℕ)) (kind : ReadKind) → IsBadCount (codes "seats") 64 line kind →
+pub seats-fault : (f : TextHead) (shape : Extent) (line : List (List ℕ)) (kind : ReadKind) → IsBadCount (codes "seats") 64 line kind →
     IsFaultOfLine (SeatsLine f shape) line kind
 seats-fault f shape line OverLimit h = h
 seats-fault f shape line BadHeader h = absurd h
@@ -64,7 +64,7 @@ seats-fault f shape line BadLine h = record {
   no_bad_outcome = λ no. no;
 }
 
-pub opening-fault : (f : Form) (shape : Extent) (line : List (List ℕ)) (kind : ReadKind) → IsBadOpening shape.blocks line kind →
+pub opening-fault : (f : TextHead) (shape : Extent) (line : List (List ℕ)) (kind : ReadKind) → IsBadOpening shape.blocks line kind →
     IsFaultOfLine (OpeningLine f shape) line kind
 opening-fault f shape line OverLimit h = absurd h
 opening-fault f shape line BadHeader h = absurd h

@@ -17,23 +17,23 @@ use Rattle.base.specs.declared.step.Outcome.TheVariants as outcome
 use Rattle.base.specs.Spelling.{ask_words, step_words, outcome_words, is_name, FitsAsk, FitsStep, FitsOutcome}
 use Rattle.base.specs.Entries.{HasFewActions}
 use Rattle.base.specs.Entries as entries
-use Rattle.base.specs.declared.controller.entry.Entry as table_cell
-use Rattle.base.specs.declared.controller.entry.Entry.TheVariants as table_entry
+use Rattle.base.specs.declared.controller.entry.CellEntry as table_cell
+use Rattle.base.specs.declared.controller.entry.CellEntry.TheVariants as table_entry
 use Rattle.cache_table.specs.Names as cache_names
 use Rattle.cache_table.specs.inner.Standing as cache_standing
 use Rattle.directory_table.specs.Names as directory_names
 use Rattle.directory_table.specs.inner.Standing as directory_standing
-use Rattle.both_tables.specs.CellPlaces.{place_number}
+use Rattle.tables.specs.CellPlaces.{place_number}
 use Rattle.record_lines.specs.declared.cells.Cell.{Cell}
 use Rattle.record_lines.specs.declared.cells.Cell.TheVariants as cell
 use Rattle.record_lines.specs.declared.entry.Entry.{Entry}
 use Rattle.record_lines.specs.Cells.{cell_words, most_cells, FitsCell}
 use Rattle.record_lines.specs.Text.{by_words, header_words, shape_words, opening_words, entry_words, told_words}
-use Rattle.base.specs.Spelling.{joined}
+use Rattle.base.specs.Words.{joined}
 use Rattle.base.specs.declared.controller.protocol.Protocol.{Protocol}
 use Rattle.base.specs.declared.controller.protocol.Protocol.TheVariants.{Msi, MsiE}
 use Rattle.record_lines.specs.declared.due.Due.{Due}
-use Rattle.record_lines.specs.declared.due.Form.{Form}
+use Rattle.record_lines.specs.declared.due.TextHead.{TextHead}
 use Rattle.record_lines.specs.declared.told.Told.{Told}
 use Rattle.record_lines.specs.declared.version.Version.{Version}
 use Rattle.record_lines.specs.declared.version.Version.TheVariants.{One, Two}
@@ -41,8 +41,7 @@ use Rattle.record_lines.specs.Refused.{limit}
 use Rattle.record_lines.specs.Versions.{form, header_leads, shape_leads_in, most_blocks, most_bytes, protocol_words, IsShapeIn}
 use Rattle.record_lines.specs.declared.due.Due.TheVariants.{Header, ProtocolLine, ShapeLine, SeatsLine, OpeningLine, CellCount, CellLine, EntryCount}
 use Rattle.record_lines.specs.declared.due.Due.TheVariants.{EntryLine, EndLine, Nothing}
-use Rattle.record_lines.specs.Grammar.{cells_due}
-use Rattle.record_lines.specs.Grammar.{entries_due, AreValues, FitsEntry, FitsTold, IsOwner, Leads}
+use Rattle.record_lines.specs.Grammar.{cells_due, entries_due, AreValues, FitsEntry, FitsTold, IsOwner, Leads}
 use Rattle.record_lines.proofs.Alike.{same-place}
 use Rattle.record_lines.proofs.Legible.{IsWord, IsLine, all-append, joined-short, text-word, name-word, number-word}
 
@@ -97,7 +96,7 @@ names-words name plain [] = tt
 names-words name plain (x ∷ xs) = (name-word (name x) (plain x), names-words name plain xs)
 
 table_entry-line : {S A : Type 0} (state : S → List ℕ) (action : A → List ℕ) → ((s : S) → is_name (state s) ≡ true) →
-    ((a : A) → is_name (action a) ≡ true) → (x : table_cell.Entry S A) → HasFewActions x →
+    ((a : A) → is_name (action a) ≡ true) → (x : table_cell.CellEntry S A) → HasFewActions x →
     AllByRecursion IsWord (entries.entry_words state action x) × (length (entries.entry_words state action x) ≤ 10)
 table_entry-line state action plain_states plain_actions table_entry.Blank f = ((text-word _ refl (omega arith), tt), omega arith)
 table_entry-line state action plain_states plain_actions table_entry.Stall f = ((text-word _ refl (omega arith), tt), omega arith)
@@ -248,11 +247,11 @@ leads-short Nothing line next h l = absurd l
 
 -- ---- what is due behind it
 
-cells-due : (f : Form) (n from : ℕ) → f.seats ≤ 64 → IsDue (cells_due f n from)
+cells-due : (f : TextHead) (n from : ℕ) → f.seats ≤ 64 → IsDue (cells_due f n from)
 cells-due f zero from h = h
 cells-due f (suc n) from h = h
 
-entries-due : (f : Form) (n : ℕ) → f.seats ≤ 64 → IsDue (entries_due f n)
+entries-due : (f : TextHead) (n : ℕ) → f.seats ≤ 64 → IsDue (entries_due f n)
 entries-due f zero h = h
 entries-due f (suc n) h = h
 
@@ -260,7 +259,7 @@ header-due : (v : Version) → IsDue (header_leads v)
 header-due One = omega arith
 header-due Two = tt
 
-shape-due : (v : Version) (f : Form) (shape : Extent) → f.seats ≤ 64 → IsShapeIn f.version shape → IsDue (shape_leads_in v f shape)
+shape-due : (v : Version) (f : TextHead) (shape : Extent) → f.seats ≤ 64 → IsShapeIn f.version shape → IsDue (shape_leads_in v f shape)
 shape-due One f shape h within = (within, h)
 shape-due Two f shape h within = within
 

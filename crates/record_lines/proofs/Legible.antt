@@ -7,8 +7,8 @@ use Rattle.std.proofs.lemmas.Bool.Decides.{nat_tests}
 use Rattle.std.proofs.lemmas.Fmt.{decimal_by_steps, length-decimal-le}
 use Rattle.std.proofs.lemmas.List.Elements.{All-from_recursion}
 use Rattle.std.proofs.lemmas.List.Splits.{slice_split_at, slice_split_none}
-use Rattle.base.specs.Spelling.{is_name, words}
-use Rattle.base.specs.Spelling.{spaced, joined}
+use Rattle.base.specs.Spelling.{is_name}
+use Rattle.base.specs.Words.{words, spaced, joined}
 use Rattle.record_lines.specs.Refused.{HasNoEnd}
 
 -- a word has at most 20 bytes, and each stands behind the blank

@@ -5,7 +5,7 @@ use Rattle.std.specs.Fmt.{decimal}
 use Rattle.std.proofs.lemmas.List.{length-map, get_or-map, get_or_at}
 use Rattle.std.proofs.lemmas.List.Elements.{All-get_or}
 use Rattle.std.proofs.lemmas.List.Splits.{length-slice_split}
-use Rattle.base.specs.Spelling.{words}
+use Rattle.base.specs.Words.{words}
 use Rattle.record_lines.specs.Text.{opening_words}
 use Rattle.record_lines.specs.declared.fault.ReadKind.TheVariants.{BadLine}
 use Rattle.record_lines.specs.Reading.{IsBadOpening}

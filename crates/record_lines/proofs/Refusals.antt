@@ -3,7 +3,7 @@ use Rattle.std.proofs.Common.{◌≡◌, ◌≢◌, inl, inr, ◌≤◌, ◌+◌
 use Rattle.std.proofs.Common.{length-append, append_assoc, append-nil}
 use Rattle.std.specs.List.{flat_map}
 use Rattle.std.proofs.lemmas.List.{take-append-le}
-use Rattle.base.specs.Spelling.{words}
+use Rattle.base.specs.Words.{words}
 use Rattle.record_lines.specs.declared.fault.ReadKind.{ReadKind}
 use Rattle.record_lines.specs.declared.fault.ReadKind.TheVariants.{BadHeader, BadLine, Truncated, CountDiffers, BadOutcome, OverLimit, NoMemory, Device}
 use Rattle.record_lines.specs.declared.fault.ReadKind.TheVariants.{UnknownProtocol}

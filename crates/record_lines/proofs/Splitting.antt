@@ -1,12 +1,13 @@
 -- Lines of a step, an equals sign and what follows.
 use Rattle.std.proofs.Common.{◌≡◌, ◌≢◌, ◌<◌, ℕ, List, [], ◌∷◌, ◌++◌, eqb, None, length, refl, ap, sym, ◌∙◌, arith, codes}
 use Rattle.std.proofs.lemmas.List.Splits.{length-slice_split}
-use Rattle.base.specs.Spelling.{words, spaced, step_words, outcome_words, FitsStep, IsNoOutcome}
+use Rattle.base.specs.Words.{words, spaced}
+use Rattle.base.specs.Spelling.{step_words, outcome_words, FitsStep, IsNoOutcome}
 use Rattle.base.specs.declared.step.Step.{Step}
 use Rattle.base.specs.declared.step.Outcome.{Outcome}
 use Rattle.base.specs.declared.step.Outcome.TheVariants as outcome
 use Rattle.record_lines.specs.declared.due.Due.TheVariants.{EntryLine}
-use Rattle.record_lines.specs.declared.due.Form.{Form}
+use Rattle.record_lines.specs.declared.due.TextHead.{TextHead}
 use Rattle.record_lines.specs.declared.told.Told.{Told}
 use Rattle.base.proofs.Spellings.{behind_step}
 use Rattle.record_lines.specs.Refused.{HasNoOutcome, IsFaultOfLine}
@@ -68,7 +69,7 @@ not-told seats line t none fits e =
     none t.owner t.entry.step parts.0 parts.1 fits.0 fits.1.0
     (e ∙ ap (λ us. by_words t.owner ++ (step_words t.entry.step ++ codes "=" ∷ us)) parts.2)
 
-pub told-fault : (f : Form) (left : ℕ) (line : List (List ℕ)) (kind : ReadKind) → IsFaultOfTold f.seats line kind → IsFaultOfLine (EntryLine f left) line kind
+pub told-fault : (f : TextHead) (left : ℕ) (line : List (List ℕ)) (kind : ReadKind) → IsFaultOfTold f.seats line kind → IsFaultOfLine (EntryLine f left) line kind
 told-fault f left line CountDiffers h = h
 told-fault f left line BadOutcome h = h
 told-fault f left line BadLine h = record {

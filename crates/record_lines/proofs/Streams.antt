@@ -96,15 +96,6 @@ grown kept buffer at end standing count behind few =
     ∙ ap (λ l. kept ++ (front ++ take count l)) (drop-drop standing (at - standing) buffer ∙ ap (λ n. drop n buffer) back)
     ∙ ap (λ l. kept ++ (front ++ l)) (sym (take-take count (end - at) (drop at buffer) few)) ∙ sym (append_assoc kept front _)
 
--- the first of the bytes that are held, moved to the line
-pub front-moved : (buffer line new : List ℕ) (at end count : ℕ) → count ≤ end - at → new ≡ line ++ take count (take (end - at) (drop at buffer)) →
-    new ++ take (end - (at + count)) (drop (at + count) buffer) ≡ line ++ take (end - at) (drop at buffer)
-front-moved buffer line new at end count few is =
-    let held = take (end - at) (drop at buffer) in
-    ap (λ l. l ++ take (end - (at + count)) (drop (at + count) buffer)) is
-    ∙ append_assoc line (take count held) (take (end - (at + count)) (drop (at + count) buffer))
-    ∙ ap (λ l. line ++ (take count held ++ l)) (sym (held-behind buffer at end count few)) ∙ ap (λ l. line ++ l) (take-append-drop count held)
-
 -- what stands behind a front of the bytes that are held
 pub left-behind : (buffer front rest : List ℕ) (at end : ℕ) → end ≤ length buffer → at ≤ end → take (end - at) (drop at buffer) ≡ front ++ rest →
     take (end - (end - length rest)) (drop (end - length rest) buffer) ≡ rest

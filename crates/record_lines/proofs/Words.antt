@@ -1,5 +1,5 @@
 -- Words of lines.
-use Rattle.std.proofs.Common.{◌≡◌, ◌≢◌, Bool, arith, ℕ, ◌+◌, List, [], ◌∷◌, ◌++◌, Option, Some, None, length, refl, ap, sym}
+use Rattle.std.proofs.Common.{◌≡◌, ◌≢◌, Bool, arith, ℕ, List, [], ◌∷◌, ◌++◌, Option, Some, None, length, refl, ap, sym}
 use Rattle.std.proofs.Common.{◌∙◌, append_assoc}
 use Rattle.std.proofs.lemmas.List.{append-nil}
 use Rattle.std.proofs.lemmas.Grind.{flat_map-append}
@@ -7,7 +7,8 @@ use Rattle.std.specs.List.{join_with_byte, slice_split}
 use Rattle.std.specs.Prelude.{codes}
 use Rattle.std.specs.Fmt.{decimal}
 use Rattle.std.proofs.lemmas.List.Splits.{join_with_byte-slice_split, length-slice_split}
-use Rattle.base.specs.Spelling.{words, ask_words, step_words, outcome_words}
+use Rattle.base.specs.Words.{words, spaced, joined}
+use Rattle.base.specs.Spelling.{ask_words, step_words, outcome_words}
 use Rattle.base.specs.declared.step.Step.{Step}
 use Rattle.base.specs.declared.step.Step.TheVariants as step
 use Rattle.base.specs.declared.step.Outcome.{Outcome}
@@ -16,7 +17,6 @@ use Rattle.record_lines.specs.declared.entry.Entry.{Entry}
 use Rattle.record_lines.specs.declared.told.Told.{Told}
 use Rattle.record_lines.specs.Text.{by_words, entry_words, told_words}
 use Rattle.record_lines.specs.inner.Pieces.{by_text}
-use Rattle.base.specs.Spelling.{spaced, joined}
 
 -- words with a blank between two
 pub joined-is : (ws : List (List ℕ)) → join_with_byte 32 ws ≡ joined ws

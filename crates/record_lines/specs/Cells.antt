@@ -10,9 +10,9 @@ use Rattle.cache_table.specs.Keeping as cache_keeping
 use Rattle.directory_table.specs.Table as directory_table
 use Rattle.directory_table.specs.Names as directory_names
 use Rattle.directory_table.specs.Keeping as directory_keeping
-use Rattle.both_tables.specs.Tables.{Tables}
-use Rattle.both_tables.specs.declared.cell_places.CellPlace.{CellPlace}
-use Rattle.both_tables.specs.declared.cell_places.CellPlace.TheVariants as place
+use Rattle.tables.specs.Tables.{Tables}
+use Rattle.tables.specs.declared.cell_places.CellPlace.{CellPlace}
+use Rattle.tables.specs.declared.cell_places.CellPlace.TheVariants as place
 use Rattle.record_lines.specs.declared.cells.Cell.{Cell}
 use Rattle.record_lines.specs.declared.cells.Cell.TheVariants as cell
 
@@ -58,5 +58,5 @@ is_known protocol (cell.Directory state event entry) = directory_table.has_entry
 
 -- the table of a place has all its cells, and keeps to its protocol
 abbrev pub IsInWhole : Tables → CellPlace → Type 0
-IsInWhole tables (place.Cache state event) = cache_keeping.IsTable tables.protocol tables.cache
-IsInWhole tables (place.Directory state event) = directory_keeping.IsTable tables.protocol tables.directory
+IsInWhole tables (place.Cache state event) = cache_keeping.IsCacheTable tables.protocol tables.cache
+IsInWhole tables (place.Directory state event) = directory_keeping.IsDirectoryTable tables.protocol tables.directory

@@ -1,13 +1,14 @@
 -- Which line is due after which in a recording's text, and what a well formed line is.
 use Rattle.std.specs.Prelude.{◌≡◌, ℕ, ◌+◌, ◌-◌, ◌<◌, ◌≤◌, ◌^◌, List, [], ◌∷◌, true, false, All, Option, Some, None, length, zero, suc}
 use Rattle.base.specs.Extent.{Extent}
-use Rattle.base.specs.Spelling.{words, FitsStep, FitsOutcome}
-use Rattle.both_tables.specs.CellPlaces.{place_number}
-use Rattle.both_tables.specs.Tables.{baseline_of}
+use Rattle.base.specs.Words.{words}
+use Rattle.base.specs.Spelling.{FitsStep, FitsOutcome}
+use Rattle.tables.specs.CellPlaces.{place_number}
+use Rattle.tables.specs.Tables.{baseline_of}
 use Rattle.record_lines.specs.declared.due.Due.{Due}
 use Rattle.record_lines.specs.declared.due.Due.TheVariants.{Header, ProtocolLine, ShapeLine, SeatsLine, OpeningLine, CellCount, CellLine, EntryCount}
 use Rattle.record_lines.specs.declared.due.Due.TheVariants.{EntryLine, EndLine, Nothing}
-use Rattle.record_lines.specs.declared.due.Form.{Form}
+use Rattle.record_lines.specs.declared.due.TextHead.{TextHead}
 use Rattle.record_lines.specs.declared.entry.Entry.{Entry}
 use Rattle.record_lines.specs.declared.told.Told.{Told}
 use Rattle.record_lines.specs.declared.version.Version.{Version}
@@ -15,17 +16,16 @@ use Rattle.record_lines.specs.declared.version.Version.TheVariants.{Two}
 use Rattle.base.specs.declared.controller.protocol.Protocol.{Protocol}
 use Rattle.record_lines.specs.Versions.{form, header_leads, shape_leads_in, protocol_words, seats_words, IsShapeIn}
 use Rattle.record_lines.specs.declared.cells.Cell.{Cell}
-use Rattle.record_lines.specs.Cells.{cell_at, cell_words, is_known, most_cells, place_of, FitsCell}
+use Rattle.record_lines.specs.Cells.{cell_at, cell_words, is_known, most_cells, place_of, FitsCell, is_same}
 use Rattle.record_lines.specs.Text.{header_words, shape_words, opening_words, cells_words, entries_words, told_words, end_words}
-use Rattle.record_lines.specs.Cells.{is_same}
 
 -- what is due where so many cells are still to come, the next at a place of this number or a higher one
-abbrev pub cells_due : Form → ℕ → ℕ → Due
+abbrev pub cells_due : TextHead → ℕ → ℕ → Due
 cells_due f zero from = EntryCount f
 cells_due f (suc left) from = CellLine f (suc left) from
 
 -- what is due where so many entries are still to come
-abbrev pub entries_due : Form → ℕ → Due
+abbrev pub entries_due : TextHead → ℕ → Due
 entries_due f zero = EndLine f
 entries_due f (suc left) = EntryLine f (suc left)
 
@@ -35,7 +35,7 @@ pub record AreValues (shape : Extent) (values : List ℕ) : Type 0 where
   pub small : All (λ value. value < 2 ^ 64) values
 
 -- a cell that may be listed from a place on: its protocol has all that it names, and it differs from the protocol's own
-pub record IsListed (protocol : Protocol) (from : ℕ) (cell : Cell) : Type 0 where
+pub record MayBeListed (protocol : Protocol) (from : ℕ) (cell : Cell) : Type 0 where
   pub fits : FitsCell cell
   pub known : is_known protocol cell ≡ true
   pub in_order : from ≤ place_number (place_of cell)
@@ -65,7 +65,7 @@ Leads (SeatsLine f shape) line next =
 Leads (OpeningLine f shape) line next = (values : List ℕ) × AreValues shape values × (line ≡ opening_words values) × (next ≡ CellCount f)
 Leads (CellCount f) line next = (count : ℕ) × (count ≤ most_cells f.protocol) × (line ≡ cells_words count) × (next ≡ cells_due f count 0)
 Leads (CellLine f left from) line next =
-    (cell : Cell) × IsListed f.protocol from cell × (line ≡ cell_words cell) × (next ≡ cells_due f (left - 1) (place_number (place_of cell) + 1))
+    (cell : Cell) × MayBeListed f.protocol from cell × (line ≡ cell_words cell) × (next ≡ cells_due f (left - 1) (place_number (place_of cell) + 1))
 Leads (EntryCount f) line next = (count : ℕ) × (count ≤ 1000000) × (line ≡ entries_words count) × (next ≡ entries_due f count)
 Leads (EntryLine f left) line next = (t : Told) × FitsTold f.seats t × (line ≡ told_words t) × (next ≡ entries_due f (left - 1))
 Leads (EndLine f) line next = (line ≡ end_words) × (next ≡ Nothing)

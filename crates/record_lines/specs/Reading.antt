@@ -1,5 +1,5 @@
 -- How a text is read line by line.
-use Rattle.std.specs.Prelude.{Bool, true, false, ◌≡◌, ◌≢◌, ℕ, ◌+◌, ◌<◌, ◌≤◌, ◌^◌, List, [], ◌∷◌, ◌++◌, Option, All, codes, length}
+use Rattle.std.specs.Prelude.{Bool, true, false, ◌≡◌, ◌≢◌, ◌⊎◌, ℕ, ◌+◌, ◌-◌, min, ◌<◌, ◌≤◌, ◌^◌, List, [], ◌∷◌, ◌++◌, Option, All, codes, length}
 use Rattle.std.specs.Io.KnownBytes.{prepend_known}
 use Rattle.std.specs.Fmt.{decimal}
 use Rattle.base.specs.Extent.{Extent}
@@ -7,7 +7,8 @@ use Rattle.base.specs.declared.controller.protocol.Protocol.{Protocol}
 use Rattle.record_lines.specs.declared.version.Version.{Version}
 use Rattle.record_lines.specs.Versions.{protocol_words, IsShapeIn}
 use Rattle.record_lines.specs.Grammar.{IsOwner}
-use Rattle.base.specs.Spelling.{joined, step_words, FitsStep}
+use Rattle.base.specs.Words.{joined}
+use Rattle.base.specs.Spelling.{step_words, FitsStep}
 use Rattle.base.specs.declared.step.Step.{Step}
 use Rattle.record_lines.specs.declared.cells.Cell.{Cell}
 use Rattle.record_lines.specs.Cells.{cell_words, FitsCell}
@@ -47,6 +48,35 @@ pub record IsEntryTakenOff (entry : Entry) (old new : Gathered) : Type 0 where
   pub ahead : old.ahead ≡ joined (entry_words entry) ++ 10 ∷ new.ahead
   pub line : new.line ≡ []
   pub number : new.number ≡ old.number + 1
+
+-- the number of the line behind, if numbers are high enough for it
+abbrev pub next_number : ℕ → ℕ
+next_number n = min (n + 1) (2 ^ 64 - 1)
+
+-- the line of this step, no part of which was gathered, was taken off with its end
+pub record IsStepTakenOff (step : Step) (old new : Gathered) : Type 0 where
+  pub none : old.line ≡ []
+  pub ahead : old.ahead ≡ joined (step_words step) ++ 10 ∷ new.ahead
+  pub line : new.line ≡ []
+  pub number : new.number ≡ next_number old.number
+
+-- whether the front of a line is there: its end is next, or it has so many bytes
+abbrev pub HasFrontIf : Bool → ℕ → Gathered → Type 0
+HasFrontIf true most gathered = BeginsWithEnd gathered.ahead ⊎ (most ≤ length gathered.line)
+HasFrontIf false most gathered = gathered.ahead ≡ []
+
+-- the line was passed with its end
+pub record IsPassed (old new : Gathered) : Type 0 where
+  pub rest : List ℕ
+  pub no_end : HasNoEnd rest
+  pub ahead : old.ahead ≡ rest ++ 10 ∷ new.ahead
+  pub line : new.line ≡ []
+  pub number : new.number ≡ next_number old.number
+
+-- whether the end of a line was pulled: the line was passed up to it, or all that was pulled
+abbrev pub IsPassedIf : Bool → Gathered → Gathered → Type 0
+IsPassedIf true old new = IsPassed old new
+IsPassedIf false old new = HasNoEnd old.ahead × (new ≡ record { line = []; ahead = []; number = old.number })
 
 -- whether there are bytes
 abbrev pub AreSomeIf : Bool → List ℕ → Type 0

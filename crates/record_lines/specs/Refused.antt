@@ -6,7 +6,8 @@ use Rattle.std.specs.Fmt.{decimal}
 use Rattle.base.specs.Extent.{Extent}
 use Rattle.base.specs.Protocols.{protocol_name}
 use Rattle.base.specs.declared.controller.protocol.Protocol.{Protocol}
-use Rattle.base.specs.Spelling.{joined, words, step_words, outcome_words, FitsStep, FitsOutcome}
+use Rattle.base.specs.Words.{joined, words}
+use Rattle.base.specs.Spelling.{step_words, outcome_words, FitsStep, FitsOutcome}
 use Rattle.base.specs.declared.step.Step.{Step}
 use Rattle.base.specs.declared.step.Outcome.{Outcome}
 use Rattle.record_lines.specs.declared.told.Told.{Told}

@@ -2,7 +2,8 @@
 use Rattle.std.specs.Prelude.{ℕ, List, [], ◌∷◌, ◌++◌, Option, Some, None, codes, map}
 use Rattle.std.specs.Fmt.{decimal}
 use Rattle.base.specs.Extent.{Extent}
-use Rattle.base.specs.Spelling.{joined, step_words, outcome_words}
+use Rattle.base.specs.Words.{joined}
+use Rattle.base.specs.Spelling.{step_words, outcome_words}
 use Rattle.record_lines.specs.declared.entry.Entry.{Entry}
 use Rattle.record_lines.specs.declared.told.Told.{Told}
 use Rattle.record_lines.specs.declared.version.Version.{Version}

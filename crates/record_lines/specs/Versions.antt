@@ -7,7 +7,7 @@ use Rattle.base.specs.declared.controller.protocol.Protocol.{Protocol}
 use Rattle.base.specs.declared.controller.protocol.Protocol.TheVariants.{Msi}
 use Rattle.record_lines.specs.declared.due.Due.{Due}
 use Rattle.record_lines.specs.declared.due.Due.TheVariants.{ProtocolLine, ShapeLine, SeatsLine, OpeningLine}
-use Rattle.record_lines.specs.declared.due.Form.{Form}
+use Rattle.record_lines.specs.declared.due.TextHead.{TextHead}
 use Rattle.record_lines.specs.declared.version.Version.{Version}
 use Rattle.record_lines.specs.declared.version.Version.TheVariants.{One, Two}
 
@@ -48,7 +48,7 @@ seats_lines One seats = []
 seats_lines Two seats = seats_words seats ∷ []
 
 -- a text of this protocol that tells of so many seats, or of none yet
-abbrev pub form : Version → Protocol → ℕ → Form
+abbrev pub form : Version → Protocol → ℕ → TextHead
 form version protocol seats = record { version = version; protocol = protocol; seats = seats }
 
 -- what is due behind the first line, and behind the shape's
@@ -56,7 +56,7 @@ abbrev pub header_leads : Version → Due
 header_leads One = ShapeLine (form One Msi 0)
 header_leads Two = ProtocolLine
 
-abbrev pub shape_leads_in : Version → Form → Extent → Due
+abbrev pub shape_leads_in : Version → TextHead → Extent → Due
 shape_leads_in One f shape = OpeningLine f shape
 shape_leads_in Two f shape = SeatsLine f shape
 

@@ -1,7 +1,7 @@
 //! What a line of a cell spells.
 
 ghost use Rattle.std.specs.Prelude.{◌≡◌, IfSome, MatchOption};
-ghost use Rattle.base.specs.Spelling.{words};
+ghost use Rattle.base.specs.Words.{words};
 ghost use Rattle.record_lines.specs.Cells.{cell_words, FitsCell};
 ghost use Rattle.record_lines.specs.Reading.{IsNoCell};
 

@@ -2,9 +2,9 @@ ghost use Rattle.std.specs.Prelude.{◌≡◌, ◌≤◌};
 ghost use Rattle.record_lines.specs.Cells.{cell_at, is_known, is_same, most_cells, place_of, FitsCell, IsInWhole};
 
 use base::controller::Protocol;
-use both_tables::{CellPlace, Tables};
 use cache_table::{CacheEntry, CacheEvent, CacheState, knows_cell};
 use directory_table::{DirectoryEntry, DirectoryEvent, DirectoryState, knows_entry};
+use tables::{CellPlace, Tables};
 
 /// A cell with its place.
 #[derive(Clone, Copy)]

@@ -9,7 +9,7 @@ use base::controller::Protocol;
 
 /// What the head of a text has told so far: how it is written, of which protocol, and of how many seats.
 #[derive(Clone, Copy)]
-pub struct Form {
+pub struct TextHead {
     pub version: Version,
     pub protocol: Protocol,
     pub seats: u32,
@@ -20,18 +20,22 @@ pub struct Form {
 pub enum Due {
     Header,
     ProtocolLine,
-    ShapeLine(Form),
+    ShapeLine(TextHead),
     /// The seats, behind this shape.
-    SeatsLine(Form, Shape),
+    SeatsLine(TextHead, Shape),
     /// The opening values of this shape.
-    OpeningLine(Form, Shape),
-    CellCount(Form),
+    OpeningLine(TextHead, Shape),
+    CellCount(TextHead),
     /// A cell: so many are still to come, and its place is of this number or a higher one.
-    CellLine { form: Form, left: u32, from: usize },
-    EntryCount(Form),
+    CellLine {
+        form: TextHead,
+        left: u32,
+        from: usize,
+    },
+    EntryCount(TextHead),
     /// An entry: so many are still to come.
-    EntryLine(Form, u32),
-    EndLine(Form),
+    EntryLine(TextHead, u32),
+    EndLine(TextHead),
     Nothing,
 }
 
@@ -41,7 +45,7 @@ impl Due {
         ensures { result ≡ header_leads version }
     {
         match version {
-            Version::One => Due::ShapeLine(Form {
+            Version::One => Due::ShapeLine(TextHead {
                 version,
                 protocol: Protocol::Msi,
                 seats: 0,
@@ -51,7 +55,7 @@ impl Due {
     }
 
     /// What is due behind the line of the shape.
-    pub fn behind_shape(form: Form, shape: Shape) -> Due
+    pub fn behind_shape(form: TextHead, shape: Shape) -> Due
         ensures { result ≡ shape_leads_in form.version form shape }
     {
         match form.version {
@@ -61,7 +65,7 @@ impl Due {
     }
 
     /// What is due where so many cells are still to come.
-    pub fn cells(form: Form, left: u32, from: usize) -> Due
+    pub fn cells(form: TextHead, left: u32, from: usize) -> Due
         ensures { result ≡ cells_due form left from }
     {
         match left {
@@ -71,7 +75,7 @@ impl Due {
     }
 
     /// What is due where so many entries are still to come.
-    pub fn entries(form: Form, left: u32) -> Due
+    pub fn entries(form: TextHead, left: u32) -> Due
         ensures { result ≡ entries_due form left }
     {
         match left {

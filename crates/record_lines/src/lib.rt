@@ -1,4 +1,5 @@
-//! The single lines of a recording's text: how each is read, and how those of cells and entries are spelled.
+//! The single lines of a recording's text: how they are gathered from a source, which line is due, how each is read, and
+//! how those of cells and entries are spelled. What is wrong with a text that is refused is told here too.
 #![tactic(auto)]
 
 mod cell_parsing;
@@ -14,7 +15,7 @@ mod version;
 
 pub use cell_parsing::cell_of;
 pub use cells::{Cell, most_cells};
-pub use due::{Due, Form};
+pub use due::{Due, TextHead};
 pub use entry::Entry;
 pub use fault::{ReadFault, ReadKind};
 pub use lines::{Lines, MOST_PULLED};

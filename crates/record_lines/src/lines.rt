@@ -4,12 +4,12 @@ ghost use Rattle.std.specs.Vec.{vec_capacity};
 ghost use Rattle.base.specs.Ends.{MarksFault};
 ghost use Rattle.record_lines.specs.Grammar.{FitsEntry};
 ghost use Rattle.record_lines.specs.Refused.{HasNoEnd, IsTooLong};
-ghost use Rattle.record_lines.specs.Reading.{Gathered, AreSomeIf, BeginsWithEnd, IsEntryTakenOff, IsTakenOff, IsWholeIf, pending};
+ghost use Rattle.record_lines.specs.Reading.{Gathered, AreSomeIf, BeginsWithEnd, HasFrontIf, IsEntryTakenOff, IsPassedIf, IsStepTakenOff, IsTakenOff, IsWholeIf, pending};
 
 use crate::entry::Entry;
 use crate::fault::ReadKind;
 use crate::parsing::entry_ahead;
-use base::{Failed, NoMemory, Source};
+use base::{Failed, NoMemory, Source, Step};
 use memchr::memchr;
 use std::alloc::Global;
 use std::marker::Model;
@@ -108,10 +108,39 @@ impl Lines {
         if count > most - (self.line.len() + self.held) {
             return Err(ReadKind::OverLimit);
         }
+        self.add(count);
+        Ok(self.are_bytes_ahead())
+    }
+
+    /// Gathers the line as far as its bytes were pulled, but no more than so many of them, and answers whether its front is
+    /// there: its end is next, or it has as many bytes.
+    pub fn gather_front(&mut self, most: usize) -> bool
+        requires most { most ≤ 1400000 }
+        ensures front { HasFrontIf result most self.new }
+        ensures kept { pending self.new ≡ pending self.old }
+        ensures number { self.new.number ≡ self.old.number }
+        ensures short { length self.old.line ≤ most → length self.new.line ≤ most }
+    {
+        let left = most.saturating_sub(self.line.len() + self.held);
+        let count = self.bytes_of_line().min(left);
+        self.add(count);
+        self.are_bytes_ahead() || self.line().len() >= most
+    }
+
+    /// Adds so many of the bytes ahead to the line.
+    #[inline(always)]
+    fn add(&mut self, count: usize)
+        requires few { count ≤ length self.old.ahead }
+        requires open { HasNoEnd (take count self.old.ahead) }
+        requires short { length self.old.line + count ≤ 1400000 }
+        ensures line { self.new.line ≡ self.old.line ++ take count self.old.ahead }
+        ensures ahead { self.new.ahead ≡ drop count self.old.ahead }
+        ensures number { self.new.number ≡ self.old.number }
+    {
         self.at += count;
         self.held += count;
         if self.line.is_empty() && self.at < self.end {
-            return Ok(true);
+            return;
         }
         append(
             &mut self.line,
@@ -120,7 +149,6 @@ impl Lines {
             self.at,
         );
         self.held = 0;
-        Ok(self.at < self.end)
     }
 
     /// How many of the bytes ahead stand in front of the first end of a line.
@@ -166,6 +194,37 @@ impl Lines {
         self.at = self.end - rest.len();
         self.number += 1;
         Some(entry)
+    }
+
+    /// Takes off the next line where no part of it was gathered, all of it was pulled and it is found to be a step's.
+    #[inline(always)]
+    pub fn take_step(&mut self) -> Option<Step>
+        ensures some { IfSome result (λ step. IsStepTakenOff step self.old self.new) }
+        ensures none { IfNone result (self.new ≡ self.old) }
+    {
+        if !self.line.is_empty() || self.held > 0 {
+            return None;
+        }
+        let (step, rest) = Step::read_ahead::<b'\n'>(&self.buffer[self.at..self.end])?;
+        self.at = self.end - rest.len();
+        self.number = self.number.saturating_add(1);
+        Some(step)
+    }
+
+    /// Passes the line as far as its bytes were pulled, and answers whether its end was among them.
+    pub fn pass(&mut self) -> bool
+        ensures { IsPassedIf result self.old self.new }
+    {
+        let end = self.at + self.bytes_of_line();
+        self.line.clear();
+        self.held = 0;
+        if end == self.end {
+            self.at = end;
+            return false;
+        }
+        self.at = end + 1;
+        self.number = self.number.saturating_add(1);
+        true
     }
 
     /// Takes off the line, which is whole.

@@ -7,9 +7,9 @@ use Rattle.std.proofs.Math.Seq.{take-append_seam}
 use Rattle.base.specs.declared.step.Outcome.{Outcome}
 use Rattle.machine.specs.Machine.{State, next, opened, outcomes_of, state_after}
 use Rattle.world.specs.View.{View, stepped}
-use Rattle.violations.specs.declared.violation.Violation.{Violation}
-use Rattle.violations.specs.Watching.{AnswersHistory, SeesNext}
-use Rattle.violations.proofs.FirstViolations.{first_seen}
+use Rattle.monitor.specs.declared.violation.Violation.{Violation}
+use Rattle.monitor.specs.Watching.{AnswersHistory, SeesNext}
+use Rattle.monitor.proofs.FirstViolations.{first_seen}
 use Rattle.replays.specs.declared.making.Run.{Run}
 use Rattle.replays.specs.declared.making.Stage.{Stage}
 use Rattle.replays.specs.declared.making.Stage.TheVariants.{Closed, Same, Refused}
@@ -17,7 +17,7 @@ use Rattle.record_lines.specs.declared.entry.Entry.{Entry}
 use Rattle.replays.specs.declared.replaying.ReplayFault.{ReplayFault}
 use Rattle.replays.specs.declared.replaying.ReplayFault.TheVariants.{Differs, NoMemory}
 use Rattle.base.specs.Extent.{Extent}
-use Rattle.both_tables.specs.Tables.{Tables}
+use Rattle.tables.specs.Tables.{Tables}
 use Rattle.record.specs.View.{RecordingView, found_by, opened_of, steps_of, told_by, with_owned}
 use Rattle.replays.specs.Replaying.{FaultOf, IsFirstToDiffer}
 use Rattle.replays.specs.inner.Making.{HasCome, HasMadeFirst}

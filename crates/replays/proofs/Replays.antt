@@ -5,18 +5,18 @@ use Rattle.std.proofs.lemmas.List.{map_push, take-map, length-map}
 use Rattle.base.specs.Extent.{Extent}
 use Rattle.base.specs.declared.step.Step.{Step}
 use Rattle.base.specs.declared.step.Outcome.{Outcome}
-use Rattle.both_tables.specs.Tables.{Tables}
+use Rattle.tables.specs.Tables.{Tables}
 use Rattle.machine.specs.Machine.{State, Next, next, opened, state_after, outcomes_of}
 use Rattle.world.specs.View.{View, stepped}
-use Rattle.violations.specs.declared.violation.Violation.{Violation}
-use Rattle.violations.specs.Scenes.{Answers}
+use Rattle.monitor.specs.declared.violation.Violation.{Violation}
+use Rattle.monitor.specs.Scenes.{Answers}
 use Rattle.machine.specs.Completions.{completions_of}
-use Rattle.violations.specs.Watching.{HasSeen, LeadTo, AnswersHistory, SeesNext, AreDue, made_after, scene_after}
+use Rattle.monitor.specs.Watching.{HasSeen, LeadTo, AnswersHistory, SeesNext, AreDue, made_after, scene_after}
 use Rattle.record_lines.specs.declared.entry.Entry.{Entry}
 use Rattle.record.specs.View.{RecordingView, steps_of}
 use Rattle.replays.specs.Replaying.{IsFirstToDiffer}
-use Rattle.violations.specs.Violations.{AnswersFirst}
-use Rattle.violations.proofs.FirstViolations.{first_seen, first-push}
+use Rattle.monitor.specs.Violations.{AnswersFirst}
+use Rattle.monitor.proofs.FirstViolations.{first_seen, first-push}
 use Rattle.replays.specs.inner.SoFar.{IsSoFar, steps_in}
 
 outcome-at : (tables : Tables) (s : State) (steps : List Step) (k : ℕ) (step : Step) → slice_get steps k ≡ Some step →

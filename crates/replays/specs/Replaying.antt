@@ -4,7 +4,7 @@ use Rattle.base.specs.declared.step.Outcome.{Outcome}
 use Rattle.record.specs.View.{RecordingView, told_by, found_by, steps_of, IsLegal}
 use Rattle.machine.specs.Coherence.{Safe}
 use Rattle.machine.specs.Restraint.{AreRestrained}
-use Rattle.violations.specs.Violations.{AnswersFirst}
+use Rattle.monitor.specs.Violations.{AnswersFirst}
 use Rattle.record.specs.Recordable.{IsRecordable}
 use Rattle.record.specs.TextRead.{IsReadFault, IsTextRead}
 use Rattle.record_lines.specs.declared.fault.ReadKind.TheVariants.{Device}

@@ -1,4 +1,5 @@
-//! The replay of a recording, or of its text: its steps are made again, and their outcomes compared with those that it tells.
+//! The replay of a recording, or of its text while it is read: its steps are made again, and their outcomes compared with
+//! those that it tells.
 #![tactic(auto)]
 
 mod making;

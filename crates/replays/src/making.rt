@@ -5,10 +5,10 @@ ghost use Rattle.std.specs.Option.{option_or, option_zip};
 
 use crate::replaying::ReplayFault;
 use base::{NoMemory, Shape};
-use both_tables::Tables;
 use monitor::{Violation, Watch};
 use record::{Entries, Entry, Told};
 use std::alloc::Global;
+use tables::Tables;
 use world::World;
 
 /// A replay on its way: a world and a watch that have seen the same steps, and the first violation.
@@ -144,7 +144,7 @@ pub(crate) struct MadeEntries {
 
 impl MadeEntries {
     ghost use Rattle.std.specs.Prelude.{◌≡◌, Some, None, IfOk, IfErr, length};
-    ghost use Rattle.violations.specs.Violations.{AnswersFirst};
+    ghost use Rattle.monitor.specs.Violations.{AnswersFirst};
     ghost use Rattle.replays.specs.Replaying.{FaultOf};
     ghost use Rattle.record.specs.View.{RecordingView, IsLegal, steps_of};
     ghost use Rattle.replays.specs.inner.Making.{has_made};

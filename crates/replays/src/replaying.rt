@@ -2,7 +2,7 @@ ghost use Rattle.std.specs.Prelude.{◌≡◌, ◌↔◌, [], None, IfOk, IfErr,
 ghost use Rattle.machine.specs.Coherence.{Safe};
 ghost use Rattle.machine.specs.Restraint.{AreRestrained};
 ghost use Rattle.record.specs.View.{IsLegal, steps_of};
-ghost use Rattle.violations.specs.Violations.{AnswersFirst};
+ghost use Rattle.monitor.specs.Violations.{AnswersFirst};
 ghost use Rattle.replays.specs.Replaying.{FaultOf};
 ghost use Rattle.replays.specs.inner.Making.{HasMadeFirst};
 ghost use Rattle.replays.specs.inner.SoFar.{IsSoFar};

@@ -16,7 +16,7 @@ use Rattle.std.proofs.lemmas.Option.{slice_get-get_or}
 use Rattle.indexmap.proofs.CallerLemmas.{updates-with_value_at}
 use Rattle.indexmap.specs.IndexMap.{IndexMap, IsUnique, keys, values, with_value_at}
 use Rattle.rows.specs.Row.{AreTouched}
-use Rattle.rows.specs.inner.Items.{IsWithin, items_of}
+use Rattle.rows.specs.inner.Items.{IsWithinRow, items_of}
 use borrow.Follows.Closed.{read_of}
 
 -- there are so many places
@@ -24,7 +24,7 @@ pub items-length : {T : Type 0} (held : List (ℕ × T)) (places : ℕ) → leng
 items-length held places = length-map-range_with_len (λ at. lookup (nat_eq at) held) 0 places
 
 -- what stands at a place is what is held there
-pub items-at : {T : Type 0} (held : List (ℕ × T)) (places at : ℕ) → IsWithin held places →
+pub items-at : {T : Type 0} (held : List (ℕ × T)) (places at : ℕ) → IsWithinRow held places →
     get_or (items_of held places) at None ≡ lookup (nat_eq at) held
 items-at held places at within =
     elim (cases_lt at places) [
@@ -72,8 +72,8 @@ items-set old new places at value updates =
         ]
 
 -- and nothing is held beyond, where that key is below
-pub within-set : {T : Type 0} (old new : List (ℕ × T)) (places at : ℕ) (value : T) → at < places → IsWithin old places →
-    ((q : ℕ) → lookup (nat_eq q) new ≡ cond (nat_eq at q) (Some value) (lookup (nat_eq q) old)) → IsWithin new places
+pub within-set : {T : Type 0} (old new : List (ℕ × T)) (places at : ℕ) (value : T) → at < places → IsWithinRow old places →
+    ((q : ℕ) → lookup (nat_eq q) new ≡ cond (nat_eq at q) (Some value) (lookup (nat_eq q) old)) → IsWithinRow new places
 within-set old new places at value below within updates = record {
   beyond = λ q h.
       updates q ∙ ap (λ b. cond b (Some value) (lookup (nat_eq q) old)) (ne_eqb at q (λ e. absurd (omega arith))) ∙ within.beyond q h;
@@ -103,7 +103,7 @@ listed (e ∷ es) at h =
     next p = (suc p.0, p.1)
 
 -- a look-up finds only what stands in the row
-pub touched : {T : Type 0} (held : List (ℕ × T)) (places spare : ℕ) → IsWithin held places → IsDistinct nat_eq (keys_of held) →
+pub touched : {T : Type 0} (held : List (ℕ × T)) (places spare : ℕ) → IsWithinRow held places → IsDistinct nat_eq (keys_of held) →
     AreTouched (record { items = items_of held places; keys = keys_of held; spare = spare })
 touched {T} held places spare within distinct = record {
   once = λ i j before below same.
@@ -140,20 +140,20 @@ none_found {T} old new at same none = by (lookup (nat_eq at) new) refl
         absurd (true≢false (sym (found old p.0 at (ap (λ ks. slice_get ks p.0) (sym same) ∙ p.1)) ∙ ap is_some none))
 
 -- and nothing is held beyond
-pub within-same_keys : {T : Type 0} (old new : List (ℕ × T)) (places : ℕ) → IsWithin old places → keys_of new ≡ keys_of old →
-    IsWithin new places
+pub within-same_keys : {T : Type 0} (old new : List (ℕ × T)) (places : ℕ) → IsWithinRow old places → keys_of new ≡ keys_of old →
+    IsWithinRow new places
 within-same_keys old new places within same = record {
   beyond = λ q h. none_found old new q same (within.beyond q h);
 }
 
-pub within-empty : {T : Type 0} (held : List (ℕ × T)) (places : ℕ) → held ≡ [] → IsWithin held places
+pub within-empty : {T : Type 0} (held : List (ℕ × T)) (places : ℕ) → held ≡ [] → IsWithinRow held places
 within-empty held places none = record { beyond = λ q h. ap (λ es. lookup (nat_eq q) es) none }
 
 -- an insertion leaves nothing beyond, whether it succeeds or not
-pub within-insert : {T X E P : Type 0} (old new : List (ℕ × T)) (places at : ℕ) (value : T) → at < places → IsWithin old places →
+pub within-insert : {T X E P : Type 0} (old new : List (ℕ × T)) (places at : ℕ) (value : T) → at < places → IsWithinRow old places →
     (P → (q : ℕ) → lookup (nat_eq q) new ≡ cond (nat_eq at q) (Some value) (lookup (nat_eq q) old)) → (r : Result X E) → OnOk r P →
     OnErr r (new ≡ old) →
-    IsWithin new places
+    IsWithinRow new places
 within-insert old new places at value below within get (Ok x) ok err = within-set old new places at value below within (get ok)
 within-insert old new places at value below within get (Err y) ok err = within-same_keys old new places within (ap keys_of err)
 

@@ -1,8 +1,8 @@
 -- Where hints say exactly where places stand, a look at one place tells what is found.
-use Rattle.std.proofs.Common.{◌≡◌, ◌≢◌, ℕ, ◌-◌, ◌%◌, List, [], ◌∷◌, Option, None, Some, Bool, true}
+use Rattle.std.proofs.Common.{◌≡◌, ◌≢◌, ℕ, ◌%◌, List, [], ◌∷◌, Option, None, Some, Bool, true}
 use Rattle.std.proofs.Common.{refl, sym, ap, ◌∙◌, subst, zero, suc, nat_eq, slice_get, slice_index, is_some, IfSome}
 use Rattle.std.specs.Map.{keys_of, lookup}
-use Rattle.rows.specs.inner.Items.{AreHinted, IsKept, IsWithin}
+use Rattle.rows.specs.inner.Items.{AreHinted, AreItemsKept, IsWithinRow}
 use Rattle.rows.proofs.Held.{listed, within-same_keys}
 
 -- a key has an entry
@@ -33,8 +33,8 @@ missing {T} held hints at index hinted hint o there other = by (lookup (nat_eq a
         absurd (same_key o other entry.0 (there ∙ ap (λ i. slice_get held i) same ∙ entry.1))
 
 -- what is kept is so of the same keys with other items
-pub kept-same_keys : {T : Type 0} (old new : List (ℕ × T)) (places : ℕ) (hints : List ℕ) (exact : Bool) → IsWithin old places →
-    (exact ≡ true → AreHinted (keys_of old) hints) → keys_of new ≡ keys_of old → IsKept new places hints exact
+pub kept-same_keys : {T : Type 0} (old new : List (ℕ × T)) (places : ℕ) (hints : List ℕ) (exact : Bool) → IsWithinRow old places →
+    (exact ≡ true → AreHinted (keys_of old) hints) → keys_of new ≡ keys_of old → AreItemsKept new places hints exact
 kept-same_keys old new places hints exact within hinted same = record {
   within = within-same_keys old new places within same;
   hinted = λ e. subst (λ ks. AreHinted ks hints) (sym same) (hinted e);

@@ -1,5 +1,5 @@
-//! Rows of so many places: one of which only the touched places are held, one of flags, and one of numbers that is
-//! counted through fast.
+//! Rows that know no protocol: places of which only those that were touched take memory, a flag for each place, and
+//! numbers with the sums of them, by which the k-th of all is found.
 #![tactic(auto)]
 
 mod bits;
@@ -11,5 +11,5 @@ mod try_clone;
 pub use bits::Bits;
 pub use laws::{found_place_is_the_first, only_one_is_found};
 pub use sparse::Sparse;
-pub use sums::{Found, Sums};
+pub use sums::{KthPlace, Sums};
 pub use try_clone::TryClone;

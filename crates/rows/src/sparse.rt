@@ -29,13 +29,13 @@ pub struct Sparse<T> {
 impl<T> Model for Sparse<T> {
     ghost use Rattle.indexmap.specs.IndexMap.{keys, spare};
     ghost use Rattle.rows.specs.Row.{Row};
-    ghost use Rattle.rows.specs.inner.Items.{IsKept, items_of};
+    ghost use Rattle.rows.specs.inner.Items.{AreItemsKept, items_of};
 
     ghost Value = { Row T };
 
     ghost view = { λ s. record { items = items_of s.held.entries s.places; keys = keys s.held; spare = spare s.held } };
 
-    ghost invariant = { λ s. IsKept s.held.entries s.places s.hints s.exact };
+    ghost invariant = { λ s. AreItemsKept s.held.entries s.places s.hints s.exact };
 }
 
 impl<T> Sparse<T> {

@@ -22,7 +22,7 @@ pub struct Sums {
 
 /// Where the k-th is.
 #[derive(Clone, Copy)]
-pub struct Found {
+pub struct KthPlace {
     /// The place of the number that it falls in.
     pub place: usize,
     /// What is left of k there.
@@ -120,7 +120,7 @@ impl Sums {
 
     /// The place that the k-th falls in, counted from 0, and what is left of k there.
     #[inline(always)]
-    pub fn find(&self, k: u64) -> Found
+    pub fn find(&self, k: u64) -> KthPlace
         requires { k < sum self.now }
         ensures { Finds self.now k result.place result.rest }
     {
@@ -131,7 +131,7 @@ impl Sums {
             node = next;
             rest = left;
         }
-        Found {
+        KthPlace {
             place: node - self.first,
             rest: rest as u32,
         }

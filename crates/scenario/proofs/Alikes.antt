@@ -4,19 +4,19 @@ use Rattle.std.proofs.Common.{Option, Some, None, option_map, slice_get, sym, ap
 use Rattle.base.specs.declared.step.CoreAsk.{CoreAsk}
 use Rattle.scenario.specs.Tree.{Tree}
 use Rattle.scenario.specs.Taking.{ends, offers, left}
-use Rattle.scenario.specs.Alike.{Alike, Seen, followed, seen}
+use Rattle.scenario.specs.Alike.{Alike, SeenTree, followed, seen}
 use Rattle.scenario.specs.Words.{IsWord}
 use Rattle.scenario.proofs.Places.{is_below}
 use Rattle.scenario.proofs.Reached.{offer_below, ask-in, ask-out, nothing-in, nothing-out}
 
-same_seen : (a b : Seen) → Some a ≡ Some b → a ≡ b
+same_seen : (a b : SeenTree) → Some a ≡ Some b → a ≡ b
 same_seen a b e = cc e
 
 pub alike-offers : (s t : Tree) → Alike s t → offers s ≡ offers t
-alike-offers s t alike = ap (λ (a : Seen). a.offers) (same_seen (seen s) (seen t) (alike []))
+alike-offers s t alike = ap (λ (a : SeenTree). a.offers) (same_seen (seen s) (seen t) (alike []))
 
 pub alike-ends : (s t : Tree) → Alike s t → ends s ≡ ends t
-alike-ends s t alike = ap (λ (a : Seen). a.ends) (same_seen (seen s) (seen t) (alike []))
+alike-ends s t alike = ap (λ (a : SeenTree). a.ends) (same_seen (seen s) (seen t) (alike []))
 
 abbrev pub follow_if : Bool → Tree → List ℕ → Option Tree
 follow_if b t path = if b then followed t path else None

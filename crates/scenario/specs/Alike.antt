@@ -6,11 +6,11 @@ use Rattle.scenario.specs.Tree.{Tree}
 use Rattle.scenario.specs.Taking.{ends, offers, left}
 
 -- what is seen of a tree: its offers, and whether it may end
-pub record Seen : Type 0 where
+pub record SeenTree : Type 0 where
   pub offers : List CoreAsk
   pub ends : Bool
 
-abbrev pub seen : Tree → Seen
+abbrev pub seen : Tree → SeenTree
 seen t = record { offers = offers t; ends = ends t }
 
 -- what is left once these offers are taken one behind the other, if each of them is offered

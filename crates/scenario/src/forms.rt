@@ -10,7 +10,7 @@ use serde_json::Value;
 
 /// The form of one node. The values of its children may have none.
 #[derive(Clone, Copy)]
-pub enum Form<'a> {
+pub enum NodeForm<'a> {
     One(CoreAsk),
     Seq(&'a [Value]),
     Any(&'a [Value]),
@@ -19,20 +19,20 @@ pub enum Form<'a> {
 }
 
 /// The form of the value, if it has exactly the keys of one, and these have what belongs there.
-pub fn form_of(value: &Value) -> Option<Form<'_>>
+pub fn form_of(value: &Value) -> Option<NodeForm<'_>>
     ensures { option_map form_node result ≡ node_of (view value.now) }
 {
     if let Some(ask) = ask_of(value) {
-        return Some(Form::One(ask));
+        return Some(NodeForm::One(ask));
     }
     if let Some(children) = list_of(value, "seq") {
-        return Some(Form::Seq(children));
+        return Some(NodeForm::Seq(children));
     }
     if let Some(children) = list_of(value, "any") {
-        return Some(Form::Any(children));
+        return Some(NodeForm::Any(children));
     }
     if let Some(children) = list_of(value, "both") {
-        return Some(Form::Both(children));
+        return Some(NodeForm::Both(children));
     }
     turns_of(value)
 }
@@ -58,13 +58,13 @@ fn asked(word: &str, value: &Value) -> Option<Ask>
     }
 }
 
-fn turns_of(value: &Value) -> Option<Form<'_>>
+fn turns_of(value: &Value) -> Option<NodeForm<'_>>
     ensures { option_map form_node result ≡ turns_of (view value.now) }
 {
     if !has_keys(value, 2) {
         return None;
     }
-    Some(Form::Times(small_number_at(value, "times")?, value.get("of")?))
+    Some(NodeForm::Times(small_number_at(value, "times")?, value.get("of")?))
 }
 
 /// The array at the key, where the value is an object of this key alone.

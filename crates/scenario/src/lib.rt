@@ -1,4 +1,5 @@
-//! Scenarios: trees of what cores ask, under any allocator.
+//! Scenarios: trees of what cores ask, under any allocator. A tree is read from JSON, copied, written, asked what it
+//! offers, and taken from.
 #![tactic(auto)]
 
 mod copying;

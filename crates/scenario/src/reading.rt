@@ -9,7 +9,7 @@ ghost use Rattle.scenario.specs.Says.{IsJson, IsTextOf};
 ghost use Rattle.scenario.specs.inner.Walk.{Gives, tree_at, trees_behind};
 
 use crate::fitting::read_numbers;
-use crate::forms::{Form, form_of};
+use crate::forms::{NodeForm, form_of};
 use crate::making::{children_in, times_in};
 use crate::measuring::longest_word;
 use crate::tree::Scenario;
@@ -132,13 +132,19 @@ fn scenario_at<A: Allocator + Clone>(
     let levels = levels - 1;
     match form_of(value) {
         None => Err(ScenarioFault::BadShape),
-        Some(Form::One(ask)) if is_in_shape(ask, shape) => Ok(Scenario::One(ask)),
-        Some(Form::One(_)) => Err(ScenarioFault::OutOfShape),
-        Some(Form::Any([])) => Err(ScenarioFault::EmptyAny),
-        Some(Form::Seq(values)) => Ok(Scenario::Seq(scenarios_at(alloc, values, shape, levels)?)),
-        Some(Form::Any(values)) => Ok(Scenario::Any(scenarios_at(alloc, values, shape, levels)?)),
-        Some(Form::Both(values)) => Ok(Scenario::Both(scenarios_at(alloc, values, shape, levels)?)),
-        Some(Form::Times(turns, value)) => {
+        Some(NodeForm::One(ask)) if is_in_shape(ask, shape) => Ok(Scenario::One(ask)),
+        Some(NodeForm::One(_)) => Err(ScenarioFault::OutOfShape),
+        Some(NodeForm::Any([])) => Err(ScenarioFault::EmptyAny),
+        Some(NodeForm::Seq(values)) => Ok(Scenario::Seq(scenarios_at(
+            alloc, values, shape, levels,
+        )?)),
+        Some(NodeForm::Any(values)) => Ok(Scenario::Any(scenarios_at(
+            alloc, values, shape, levels,
+        )?)),
+        Some(NodeForm::Both(values)) => Ok(Scenario::Both(scenarios_at(
+            alloc, values, shape, levels,
+        )?)),
+        Some(NodeForm::Times(turns, value)) => {
             let child = scenario_at(alloc, value, shape, levels)?;
             Ok(times_in(alloc, turns, child)?)
         }

@@ -14,7 +14,7 @@ use Rattle.network.specs.declared.message.Forward.{Forward}
 use Rattle.network.specs.declared.message.Response.{Response}
 use Rattle.network.specs.Traffic.{link}
 use Rattle.machine.specs.Block.{BlockState}
-use Rattle.both_tables.specs.Tables.{Tables}
+use Rattle.tables.specs.Tables.{Tables}
 use Rattle.machine.specs.Transition.{transition, carried_out, at_request, at_forward, at_response}
 use Rattle.machine.specs.Machine.{State, Next, IsRefusal, next, next_at}
 use Rattle.machine.specs.Unstuck.{IsDelivery, Delivers}

@@ -14,7 +14,7 @@ use Rattle.base.specs.declared.step.Step.TheVariants as step
 use Rattle.blocks.specs.Asking.{holds}
 use Rattle.blocks.specs.declared.block.asking.HeldAsks.{HeldAsks}
 use Rattle.rows.specs.Flags.{set_count, IsKth}
-use Rattle.both_tables.specs.Tables.{Tables}
+use Rattle.tables.specs.Tables.{Tables}
 use Rattle.machine.specs.Machine.{State}
 use Rattle.world.specs.Looks.{held_at}
 use Rattle.cores.specs.Cores.{Core, is_free}

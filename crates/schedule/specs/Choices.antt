@@ -5,7 +5,7 @@ use Rattle.base.specs.declared.step.Step.{Step}
 use Rattle.base.specs.declared.step.Step.TheVariants as step
 use Rattle.cores.specs.Cores.{Core, is_free}
 use Rattle.machine.specs.Machine.{State, next}
-use Rattle.both_tables.specs.Tables.{Tables}
+use Rattle.tables.specs.Tables.{Tables}
 use Rattle.scenario.specs.Tree.{Tree}
 use Rattle.scenario.specs.Taking.{left, offers}
 use Rattle.world.specs.Enabled.{enabled_steps}

@@ -1,7 +1,7 @@
 -- Asks that are offered together, each with a mark: whether it wouldn't be held.
 use Rattle.std.specs.Prelude.{◌≡◌, Bool, not, List, [], map}
 use Rattle.base.specs.declared.step.CoreAsk.{CoreAsk}
-use Rattle.both_tables.specs.Tables.{Tables}
+use Rattle.tables.specs.Tables.{Tables}
 use Rattle.machine.specs.Machine.{State, next}
 use Rattle.blocks.specs.Looks.{is_held}
 use Rattle.schedule.specs.Choices.{step_of}

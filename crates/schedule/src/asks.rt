@@ -62,7 +62,7 @@ impl Asks {
     ghost use Rattle.schedule.specs.Listed.{nothing_listed};
     ghost use Rattle.schedule.specs.Marks.{all_marked, marked_by, offers_by};
     ghost use Rattle.schedule.specs.Owned.{IsMarkedIf};
-    ghost use Rattle.both_tables.specs.Tables.{Tables};
+    ghost use Rattle.tables.specs.Tables.{Tables};
     ghost use Rattle.machine.specs.Machine.{State};
     ghost use Rattle.schedule.specs.declared.choosing.Choice.TheVariants.{Offer};
 

@@ -3,7 +3,7 @@
 ghost use Rattle.std.specs.Prelude.{◌≡◌, ◌+◌, ℕ, List};
 ghost use Rattle.cores.specs.Cores.{Core};
 ghost use Rattle.machine.specs.Machine.{State};
-ghost use Rattle.both_tables.specs.Tables.{Tables};
+ghost use Rattle.tables.specs.Tables.{Tables};
 ghost use Rattle.rand_pcg.specs.Lcg.{next};
 ghost use Rattle.rand_pcg.specs.Pcg.{multiplier_64};
 ghost use Rattle.scenario.specs.Alike.{Alike};

@@ -1,4 +1,5 @@
-//! What can happen next in a world under a scenario, and the dice that choose.
+//! What can happen next in a world under a scenario, and the dice that choose. The asks that are offered together stand
+//! in a list, with a mark beside each.
 #![tactic(auto)]
 
 mod asks;

@@ -1,10 +1,12 @@
-//! Desks that are opened and closed, and seats that are taken of their rows.
+//! Desks that are opened and closed, and seats that are taken of their rows and work.
 
 ghost use Rattle.std.specs.Prelude.{◌≡◌, All};
 ghost use Rattle.desk.specs.Plans.{plan_of};
 
 use crate::asserting::same;
-use desk::{Desk, DeskSeat, Job, Planned};
+use crate::jobs::compare_with_trials;
+use base::NoMemory;
+use desk::{Desk, DeskSeat, Job, Planned, work};
 use std::alloc::Global;
 use std::process::Abort;
 use trials::TrialResult;
@@ -32,6 +34,22 @@ pub fn closed<D: Planned, R: Abort>(
     requires { All (λ seat. seat.desk ≡ desk.id) seats.items }
 {
     desk.close(seats).ok().expect(rt, "closed")
+}
+
+/// Closes a desk, and compares it with the trials of its job.
+pub fn closes_as_trials<D: Planned, R: Abort>(
+    rt: &R,
+    alloc: Global,
+    desk: Desk<'_, D>,
+    seats: Vec<DeskSeat<D>>,
+    job: &Job,
+    n: u32,
+)
+    requires seats { All (λ seat. seat.desk ≡ desk.id) seats.items }
+    requires plan { D.plan ≡ plan_of job.now }
+{
+    let places = closed(rt, desk, seats);
+    compare_with_trials::<D, R>(rt, alloc, job, n, &places)
 }
 
 /// Takes the last two seats of a row.
@@ -91,4 +109,16 @@ pub fn put_back<D: Planned, R: Abort>(
 {
     put_one(rt, desk, seats, one);
     put_one(rt, desk, seats, other);
+}
+
+/// Works off what there is for a seat, and hands the seat back.
+pub fn worked<D: Planned>(
+    desk: &Desk<'_, D>,
+    mut seat: DeskSeat<D>,
+) -> (DeskSeat<D>, Result<u32, NoMemory>)
+    requires { seat.desk ≡ desk.now.id }
+    ensures { result.0.desk ≡ desk.entry.now.id }
+{
+    let made = work(desk, &mut seat);
+    (seat, made)
 }

@@ -1,13 +1,14 @@
 ghost use Rattle.std.specs.Prelude.{◌≡◌, IfOk};
 ghost use Rattle.desk.specs.Plans.{IsResultOf, plan_of};
 
+use crate::asserting::same;
 use base::{Ask, BlockId, CacheId, CoreAsk, NoMemory, Shape};
-use both_tables::Tables;
 use desk::{Job, Planned};
 use scenario::Scenario;
 use std::alloc::Global;
 use std::process::Abort;
-use trials::{Setup, SetupFault, TrialResult, trial};
+use tables::Tables;
+use trials::{Setup, SetupFault, TrialResult, batch, trial};
 
 /// A load of core 0 and a store of core 1, which race for one block.
 const RACE: [CoreAsk; 2] = [
@@ -58,5 +59,51 @@ pub fn result_of<D: Planned>(alloc: Global, job: &Job, number: u32) -> Result<Tr
     match trial(alloc, &job.scenario, &job.setup, number) {
         Ok(made) => Ok(made.result),
         Err(fault) => Err(fault),
+    }
+}
+
+/// Compares a closed desk with the trials of its job, made one after another.
+pub fn compare_with_trials<D: Planned, R: Abort>(
+    rt: &R,
+    alloc: Global,
+    job: &Job,
+    n: u32,
+    places: &[Option<TrialResult>],
+)
+    requires { D.plan ≡ plan_of job.now }
+{
+    same(rt, &places.len(), &(n as usize));
+    for (number, place) in (0..n).zip(places) {
+        let wanted = result_of::<D>(alloc, job, number).expect(rt, "memory");
+        same(rt, place, &Some(wanted));
+    }
+}
+
+/// Compares a closed desk with the batch of its job.
+pub fn compare_with_batch(
+    rt: &impl Abort,
+    alloc: Global,
+    job: &Job,
+    n: u32,
+    places: &[Option<TrialResult>],
+) {
+    let wanted = batch(alloc, &job.scenario, &job.setup, n).expect(rt, "a batch");
+    same(rt, &places.len(), &wanted.len());
+    for (place, made) in places.iter().zip(wanted.as_slice()) {
+        same(rt, place, &Some(*made));
+    }
+}
+
+/// Holds that both were found, and are two of the places. Which seat has which number is up to the threads.
+pub fn are_places(
+    rt: &impl Abort,
+    found: &[Option<TrialResult>; 2],
+    places: &[Option<TrialResult>],
+) {
+    let [first, second] = found;
+    same(rt, &(first.is_some() && second.is_some()), &true);
+    same(rt, &(first != second), &true);
+    for one in found {
+        same(rt, &places.contains(one), &true);
     }
 }

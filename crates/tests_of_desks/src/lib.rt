@@ -1,4 +1,5 @@
-//! Tests of desks: numbers that seats claim, results that they post and look for, and what a desk is closed with.
+//! The tests of desks, of workers that share out a batch, in turn and by threads, and of threads that find what others
+//! posted.
 #![tactic(auto)]
 
 #[cfg(test)]
@@ -11,3 +12,5 @@ mod desks;
 mod jobs;
 #[cfg(test)]
 mod refusing;
+#[cfg(test)]
+mod workers;

@@ -1,8 +1,12 @@
-//! Tests of floors: how they are opened and closed, and their turns.
+//! The tests of floors, of crews and of how a seat ends.
 #![tactic(auto)]
 
 #[cfg(test)]
 mod asserting;
+#[cfg(test)]
+mod crews;
+#[cfg(test)]
+mod ends;
 #[cfg(test)]
 mod entries;
 #[cfg(test)]

@@ -1,8 +1,8 @@
 use base::Shape;
-use both_tables::Tables;
 use floor::{Setup, SetupFault};
 use std::alloc::Global;
 use std::process::Abort;
+use tables::Tables;
 
 pub fn open_setup(shape: Shape, opening: Vec<u64>) -> Result<Setup, SetupFault> {
     Setup::new(shape, Tables::baseline(), opening, 0, 0)

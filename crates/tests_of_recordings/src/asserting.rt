@@ -12,3 +12,8 @@ pub fn same<T: PartialEq + Debug>(rt: &impl Abort, found: &T, wanted: &T) {
 pub fn same_at<T: PartialEq + Debug, P: Debug>(rt: &impl Abort, found: &T, wanted: &T, at: &P) {
     assert_eq!(rt; found, wanted, "at {at:?}");
 }
+
+/// Fails the test, and says where, unless it is so.
+pub fn holds(rt: &impl Abort, place: &str, is_so: bool) {
+    assert_eq!(rt; is_so, true, "at {place}");
+}

@@ -1,4 +1,4 @@
-//! Tests of recordings: their texts in both versions, and their replays.
+//! The tests of recordings: their lines, their texts in both versions, and their replays.
 #![tactic(auto)]
 
 #[cfg(test)]
@@ -8,7 +8,11 @@ mod entries;
 #[cfg(test)]
 mod exclusive;
 #[cfg(test)]
+mod lines;
+#[cfg(test)]
 mod making;
+#[cfg(test)]
+mod plain_lines;
 #[cfg(test)]
 mod recordings;
 #[cfg(test)]

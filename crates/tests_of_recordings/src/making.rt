@@ -1,10 +1,10 @@
 //! What tests begin with: a table with an entry in a cell, shapes, values and steps.
 
 use base::{Shape, Step};
-use both_tables::Tables;
 use cache_table::{CacheEntry, CacheEvent, CacheState};
 use std::alloc::Global;
 use std::process::Abort;
+use tables::Tables;
 
 /// The own tables, where the caches have another entry in one cell.
 pub fn with_entry(state: CacheState, event: CacheEvent, entry: CacheEntry) -> Tables {

@@ -2,15 +2,14 @@ use crate::asserting::{same, same_at};
 use crate::entries::{entry_of, push};
 use crate::making::{shape_of, with_entry, zero};
 use base::controller::Protocol;
-use base::{BlockId, CacheId, Outcome, Place, Shape, Source, Step};
-use both_tables::Tables;
+use base::{BlockId, Buffer, CacheId, Faltering, Outcome, Place, Shape, Source, Step};
 use cache_table::{CacheEntry, CacheEvent, CacheState};
-use devices::{Buffer, Faltering};
 use monitor::Violation;
 use record::{Entry, MOST_ENTRIES, PushFault, ReadFault, ReadKind, Recording, WriteFault};
 use replays::{ReplayFault, replay};
 use std::alloc::Global;
 use std::process::Abort;
+use tables::Tables;
 use world::OpenFault;
 
 pub fn open(

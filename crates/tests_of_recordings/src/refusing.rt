@@ -7,12 +7,12 @@ use crate::making::shape_of;
 use crate::recordings::{open, read, replayed};
 use crate::text_replays::ANOTHER_VALUE;
 use base::{CacheId, Outcome};
-use both_tables::Tables;
 use record::{Entry, PushFault, ReadFault, ReadKind, Recording};
 use replays::{ReplayFault, TextFault, replay_text};
 use std::alloc::Global;
 use std::process::Abort;
 use std::test::Fail;
+use tables::Tables;
 
 /// Compares a fault with one that a refused growth makes.
 fn is_no_memory(rt: &impl Abort, fault: ReadFault) {

@@ -1,7 +1,6 @@
 use crate::asserting::same_at;
 use crate::recordings::{FIRST_TEXT, ONE_LOAD_TEXT};
-use base::{BlockId, CacheId, Outcome, Place};
-use devices::Faltering;
+use base::{BlockId, CacheId, Faltering, Outcome, Place};
 use monitor::Violation;
 use record::{ReadFault, ReadKind};
 use replays::{ReplayFault, TextFault, TextReplayed, replay_text};

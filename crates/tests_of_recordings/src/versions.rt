@@ -5,11 +5,11 @@ use crate::entries::entry_of;
 use crate::making::{shape_of, zero};
 use crate::recordings::{FIRST_TEXT, ONE_LOAD_TEXT, fault_of, is_refused, writes};
 use base::controller::Protocol;
-use both_tables::Tables;
-use devices::{Buffer, Faltering};
+use base::{Buffer, Faltering};
 use record::{MoveFault, ReadFault, ReadKind, Recording, WriteFault, move_text};
 use std::alloc::Global;
 use std::process::Abort;
+use tables::Tables;
 
 /// One entry, which the last of three seats owns.
 const SEATS_TEXT: &str =
@@ -136,7 +136,7 @@ fn are_refused_with(
 }
 
 #[test]
-fn texts_that_are_refused(rt: HostRuntime) {
+fn recordings_that_are_refused(rt: HostRuntime) {
     for (old, new, kind, first, second) in &OF_BOTH {
         is_refused_with(&rt, rt.alloc(), FIRST_TEXT, old, new, *kind, *first);
         is_refused_with(&rt, rt.alloc(), ONE_LOAD_TEXT, old, new, *kind, *second);

@@ -3,9 +3,8 @@
 
 use crate::asserting::same;
 use crate::letters::{letter_of, offered, try_read};
-use base::NoMemory;
+use base::{Buffer, NoMemory};
 use cursors::Cursor;
-use devices::Buffer;
 use scenario::{Rest, SaveFault, Scenario, ScenarioFault};
 use std::alloc::Global;
 use std::process::Abort;

@@ -1,10 +1,12 @@
+//! What is certified of changed tables, with stalls that cross and the greatest sets of stalls that let messages flow.
+
 use crate::asserting::{same, same_at};
-use both_tables::{CELLS, CellPlace, Tables};
 use cache_table::{CacheAction, CacheEntry, CacheEvent, CacheState};
 use certify::{Certificate, Flow, Standing, certify, standing_of};
 use directory_table::{DirectoryEntry, DirectoryEvent, DirectoryState};
 use std::alloc::Global;
 use std::process::Abort;
+use tables::{CELLS, CellPlace, Tables};
 
 /// An answer without the pairs of caches: why none are closed, or how many are.
 #[derive(Clone, Copy, Debug, PartialEq, Eq)]

@@ -5,7 +5,6 @@ use crate::certifying::{Answer, certified, changed, stalled};
 use crate::making::acting;
 use crate::overrides::makes;
 use base::controller::Protocol;
-use both_tables::{CELLS, CellPlace, Tables, TablesFault};
 use cache_table::{CacheAction, CacheEntry, CacheEvent, CacheState};
 use certify::{Standing, standing_of};
 use directory_table::{
@@ -13,6 +12,7 @@ use directory_table::{
 };
 use std::alloc::Global;
 use std::process::Abort;
+use tables::{CELLS, CellPlace, Tables, TablesFault};
 
 #[test]
 fn what_a_first_reader_is_sent(rt: HostRuntime) {

@@ -2,11 +2,11 @@
 
 use crate::asserting::same_at;
 use crate::making::{acting, with_entry};
-use both_tables::{Tables, TablesFault};
 use cache_table::{CacheAction, CacheEntry, CacheEvent, CacheState};
 use directory_table::{DirectoryEntry, DirectoryEvent, DirectoryState};
 use std::alloc::Global;
 use std::process::Abort;
+use tables::{Tables, TablesFault};
 
 /// Compares what a text makes of the baseline.
 pub fn makes(rt: &impl Abort, alloc: Global, text: &str, wanted: Result<Tables, TablesFault>) {

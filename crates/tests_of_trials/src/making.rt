@@ -2,11 +2,11 @@
 //! as it is proved anew wherever it stands.
 
 use base::{NoMemory, Shape, Step};
-use both_tables::Tables;
 use cache_table::{CacheAction, CacheActions, CacheEntry, CacheEvent, CacheState};
 use scenario::{Scenario, ScenarioFault};
 use std::alloc::Global;
 use std::process::Abort;
+use tables::Tables;
 use trials::{BatchFault, Setup, SetupFault, Trial, TrialResult, batch, trial};
 
 /// An entry that goes to a state and does these actions.

@@ -4,11 +4,11 @@
 use crate::asserting::same;
 use crate::making::{batch_of, open_setup, read_scenario, shape_of, trial_of};
 use crate::trying::{ONE_LOAD, RACING_PAIR, are_results, is_cut};
-use both_tables::Tables;
 use scenario::Scenario;
 use std::alloc::{AllocError, Global};
 use std::process::Abort;
 use std::test::Fail;
+use tables::Tables;
 use trials::{BatchFault, Setup, Verdict};
 
 /// The values of one block that opens at 0.

@@ -1,11 +1,11 @@
 use crate::asserting::same;
 use crate::making::{batch_of, scenario, setup};
 use crate::trying::{ONE_LOAD, RACING_PAIR, are_results};
-use both_tables::Tables;
 use scenario::Scenario;
 use std::alloc::Global;
 use std::process::Abort;
 use std::thread::Threads;
+use tables::Tables;
 use trials::{BatchFault, Setup, TrialResult, Verdict, spread};
 
 /// The trials of a scenario, spread.

@@ -3,17 +3,16 @@ use crate::entries::entry_of;
 use crate::making::{
     batch_of, open_setup, scenario, setup, shape_of, trial_of, values, with_entry,
 };
-use base::{BlockId, CacheId, Place, Shape};
-use both_tables::Tables;
+use base::{BlockId, Buffer, CacheId, Place, Shape};
 use cache_table::{CacheEntry, CacheEvent, CacheState};
-use devices::Buffer;
 use directory_table::{DirectoryEntry, DirectoryEvent, DirectoryState};
+use monitor::Violation;
 use record::{Entry, Recording};
 use scenario::Scenario;
 use std::alloc::Global;
 use std::process::Abort;
+use tables::Tables;
 use trials::{BatchFault, Setup, SetupFault, Trial, TrialResult, Verdict};
-use violations::Violation;
 
 pub const RACING_PAIR: &str =
     r#"{"both":[{"op":"load","core":0,"block":0},{"op":"store","core":1,"block":0,"value":9}]}"#;

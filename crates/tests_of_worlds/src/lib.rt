@@ -1,10 +1,13 @@
-//! Tests of worlds: worked runs, what is seen and touched of a world, and how one begins again.
+//! The tests of worlds, and of the crates that a world is made of: texts and shapes, wires, events and acts, steps,
+//! looks, and what a watch sees wrong.
 #![tactic(auto)]
 
 #[cfg(test)]
 mod asserting;
 #[cfg(test)]
 mod comparing;
+#[cfg(test)]
+mod controllers;
 #[cfg(test)]
 mod entries;
 #[cfg(test)]
@@ -14,6 +17,12 @@ mod refusing;
 #[cfg(test)]
 mod restarting;
 #[cfg(test)]
+mod shapes_and_texts;
+#[cfg(test)]
 mod touching;
+#[cfg(test)]
+mod watches;
+#[cfg(test)]
+mod wires;
 #[cfg(test)]
 mod worlds;

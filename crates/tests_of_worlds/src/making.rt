@@ -1,11 +1,17 @@
 //! What tests begin with. A call with a long contract stands in one function here, as it is proved anew wherever it stands.
 
 use base::{Shape, Step};
-use both_tables::Tables;
-use cache_table::{CacheEntry, CacheEvent, CacheState};
+use cache_table::{CacheAction, CacheActions, CacheEntry, CacheEvent, CacheState};
 use std::alloc::Global;
 use std::process::Abort;
+use tables::Tables;
 use world::{OpenFault, World};
+
+/// An entry that goes to a state and does these actions.
+pub fn acting(rt: &impl Abort, next: CacheState, actions: &[CacheAction]) -> CacheEntry {
+    let actions = CacheActions::of(actions).expect(rt, "few actions");
+    CacheEntry::Act { next, actions }
+}
 
 /// The own tables, where the caches have another entry in one cell.
 pub fn with_entry(state: CacheState, event: CacheEvent, entry: CacheEntry) -> Tables {

@@ -6,10 +6,10 @@ use crate::comparing::same_worlds;
 use crate::entries::entry_of;
 use crate::making::{open_world, shape_of};
 use base::{NoMemory, Outcome, Step};
-use both_tables::Tables;
 use std::alloc::{AllocError, Global};
 use std::process::Abort;
 use std::test::Fail;
+use tables::Tables;
 use world::World;
 
 /// A PutS that comes late, among three caches.

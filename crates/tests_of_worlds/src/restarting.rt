@@ -2,10 +2,10 @@ use crate::asserting::same;
 use crate::comparing::same_worlds;
 use crate::making::{make_all, open_world, shape_of, values, with_entry};
 use base::Shape;
-use both_tables::Tables;
 use cache_table::{CacheEntry, CacheEvent, CacheState};
 use std::alloc::Global;
 use std::process::Abort;
+use tables::Tables;
 use world::World;
 
 /// The protocol's own tables, where a load in I meets a blank cell if that is wanted.

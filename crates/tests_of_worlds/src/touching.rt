@@ -1,10 +1,10 @@
 use crate::asserting::same;
 use crate::making::opened;
 use base::{Ask, BlockId, CacheId, Outcome, Step};
-use both_tables::Tables;
 use schedule::Dice;
 use std::alloc::Global;
 use std::process::Abort;
+use tables::Tables;
 use world::World;
 
 fn load(cache: u32, block: u32) -> Step {

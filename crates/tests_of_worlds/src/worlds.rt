@@ -2,11 +2,11 @@ use crate::asserting::{same, same_at};
 use crate::entries::outcome_of;
 use crate::making::{open_world, opened, shape_of, step_of, values, with_entry};
 use base::{BlockId, CacheId, Outcome, Place, Shape, Step};
-use both_tables::Tables;
 use cache_table::{CacheEntry, CacheEvent, CacheState};
 use directory_table::DirectoryState;
 use std::alloc::Global;
 use std::process::Abort;
+use tables::Tables;
 use world::{OpenFault, World};
 
 const BLOCK: BlockId = BlockId(0);

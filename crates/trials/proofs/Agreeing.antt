@@ -4,14 +4,14 @@ use Rattle.std.proofs.Common.{slice_get, refl, sym, ap, ◌∙◌, subst, arith,
 use Rattle.std.proofs.lemmas.List.{map-append, length-map, take-append-le}
 use Rattle.base.specs.Extent.{Extent}
 use Rattle.base.specs.declared.step.Step.{Step}
-use Rattle.both_tables.specs.Tables.{Tables}
+use Rattle.tables.specs.Tables.{Tables}
 use Rattle.machine.specs.Machine.{next}
-use Rattle.violations.specs.declared.violation.Violation.{Violation}
-use Rattle.violations.specs.Scenes.{Scene, IsViolation}
-use Rattle.violations.specs.Watching.{scene_after}
+use Rattle.monitor.specs.declared.violation.Violation.{Violation}
+use Rattle.monitor.specs.Scenes.{Scene, IsViolation}
+use Rattle.monitor.specs.Watching.{scene_after}
 use Rattle.record.specs.View.{RecordingView}
 use Rattle.record_lines.specs.declared.entry.Entry.{Entry}
-use Rattle.violations.specs.Violations.{IsFirstViolation}
+use Rattle.monitor.specs.Violations.{IsFirstViolation}
 use Rattle.schedule.specs.Choices.{chosen_step, rest_after}
 use Rattle.schedule.specs.declared.choosing.Choice.{Choice}
 use Rattle.trials.specs.Terms.{Terms}

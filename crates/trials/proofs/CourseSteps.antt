@@ -7,14 +7,14 @@ use Rattle.rand_pcg.specs.Pcg.{multiplier_64}
 use Rattle.base.specs.Extent.{Extent}
 use Rattle.base.specs.declared.step.Step.{Step}
 use Rattle.base.specs.declared.step.Outcome.{Outcome}
-use Rattle.both_tables.specs.Tables.{Tables}
+use Rattle.tables.specs.Tables.{Tables}
 use Rattle.machine.proofs.Making.{next-told, outcome-told}
 use Rattle.machine.specs.declared.made.Made.{Made}
 use Rattle.machine.specs.Made.{made_of}
 use Rattle.machine.specs.Machine.{State, next, opened, state_after}
-use Rattle.violations.specs.declared.violation.Violation.{Violation}
-use Rattle.violations.specs.Scenes.{HasNone, IsViolation, Answers}
-use Rattle.violations.specs.Watching.{LeadTo, made_after, scene_after}
+use Rattle.monitor.specs.declared.violation.Violation.{Violation}
+use Rattle.monitor.specs.Scenes.{HasNone, IsViolation, Answers}
+use Rattle.monitor.specs.Watching.{LeadTo, made_after, scene_after}
 use Rattle.scenario.specs.Tree.{Tree}
 use Rattle.scenario.specs.Alike.{Alike}
 use Rattle.schedule.specs.Choices.{chosen_step, IsOffered, rest_after}
@@ -28,11 +28,11 @@ use Rattle.moment.specs.Seen as seen
 use Rattle.moment.specs.Seen.{IsAt, Seen, choices_in}
 use Rattle.record_lines.specs.declared.entry.Entry.{Entry}
 use Rattle.record.specs.View.{RecordingView, steps_of}
-use Rattle.violations.specs.Violations.{HasNoViolation, IsFirstViolation}
+use Rattle.monitor.specs.Violations.{HasNoViolation, IsFirstViolation}
 use Rattle.trials.specs.Terms.{Terms}
 use Rattle.trials.specs.Moments.{IsNext, IsPath}
 use Rattle.trials.specs.Trial.{IsUnowned}
-use Rattle.trials.specs.inner.Going.{Chooses, Course, GoesOn, IsGoing, Makes}
+use Rattle.trials.specs.inner.Going.{Chooses, Course, GoesOn, IsGoing, MakesAndNotes}
 use Rattle.trials.proofs.Pushing.{length-push}
 use Rattle.trials.proofs.Paths.{path-more, path-at}
 use Rattle.trials.proofs.Courses.{NextWord, SameLeft, SameChoices, same-choices}
@@ -65,7 +65,7 @@ record MakesAt (tables : Tables) (last : Moment) (rest : Tree) (k : ℕ) (step :
   pub leads : IsAt new (moment_after tables (record { state = last.state; cores = last.cores; rest = rest }) choice)
 
 makes-at : (terms : Terms) (last : Moment) (old new : Seen) (k : ℕ) (step : Step) (made : Made) → old.tables ≡ terms.tables →
-    (at : IsAt old last) → seen.Makes old k step made new → MakesAt terms.tables last at.rest k step made new
+    (at : IsAt old last) → seen.MakesChoice old k step made new → MakesAt terms.tables last at.rest k step made new
 makes-at terms last old new k step made tables at m =
     let here : Moment = record { state = last.state; cores = last.cores; rest = at.rest } in
     let is : m.before ≡ here = same-some m.before here (sym m.was ∙ at.now) in
@@ -82,7 +82,7 @@ makes-at terms last old new k step made tables at m =
 module _ (more : NextWord) (left : SameLeft) (same : SameChoices) (terms : Terms) (tree : Tree) (number : ℕ) (c made : Course) (k : ℕ)
     (violation : Option Violation) (g : IsGoing terms tree number c)
     (drawn : k ≡ word_of c.dice % length (choices_in c.moment))
-    (m : Makes (record c { dice = lcg.next 64 multiplier_64 c.dice }) k made violation) where
+    (m : MakesAndNotes (record c { dice = lcg.next 64 multiplier_64 c.dice }) k made violation) where
   at : MakesAt terms.tables g.last g.at.rest k m.step m.made made.moment
   at = makes-at terms g.last c.moment made.moment k m.step m.made g.under.tables g.at m.makes
 
@@ -182,7 +182,7 @@ module _ (more : NextWord) (left : SameLeft) (same : SameChoices) (terms : Terms
 goes-on-drawn : NoneMore → FirstMore → NextWord → SameLeft → SameChoices →
     (terms : Terms) (tree : Tree) (number : ℕ) (c made : Course) (k : ℕ) (violation : Option Violation) → IsGoing terms tree number c →
     length c.recording.entries < terms.limit → k ≡ word_of c.dice % length (choices_in c.moment) →
-    Makes (record c { dice = lcg.next 64 multiplier_64 c.dice }) k made violation → GoesOn terms tree number made violation
+    MakesAndNotes (record c { dice = lcg.next 64 multiplier_64 c.dice }) k made violation → GoesOn terms tree number made violation
 goes-on-drawn none first more left same terms tree number c made k None g low drawn m =
     goes-on-clean more left same terms tree number c made k None g drawn m
     (none terms.shape terms.tables terms.opening (steps_of c.recording) m.step g.clean (scene-made more left same terms tree number c made k None g drawn m))
@@ -211,7 +211,7 @@ goes-on-drawn none first more left same terms tree number c made k (Some violati
 -- a choice that is made leads on, or ends the trial with the violation that its step shows
 pub goes-on : NoneMore → FirstMore → NextWord → SameLeft → SameChoices →
     (terms : Terms) (tree : Tree) (number : ℕ) (c chosen made : Course) (k : ℕ) (violation : Option Violation) → IsGoing terms tree number c →
-    length c.recording.entries < terms.limit → Chooses c (Some k) chosen → Makes chosen k made violation → GoesOn terms tree number made violation
+    length c.recording.entries < terms.limit → Chooses c (Some k) chosen → MakesAndNotes chosen k made violation → GoesOn terms tree number made violation
 goes-on none first more left same terms tree number c chosen made k violation g low taken m =
     goes-on-drawn none first more left same terms tree number c made k violation g low taken.1
-    (subst (λ (x : Course). Makes x k made violation) taken.2 m)
+    (subst (λ (x : Course). MakesAndNotes x k made violation) taken.2 m)

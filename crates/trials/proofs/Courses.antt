@@ -4,7 +4,7 @@ use Rattle.std.specs.Option.{option_map_or}
 use Rattle.std.proofs.lemmas.List.{length-map}
 use Rattle.rand_pcg.specs.Pcg.{multiplier_64}
 use Rattle.rand_pcg.specs.Lcg as lcg
-use Rattle.both_tables.specs.Tables.{Tables}
+use Rattle.tables.specs.Tables.{Tables}
 use Rattle.machine.specs.Machine.{State, opened, state_after}
 use Rattle.cores.specs.Cores.{Core}
 use Rattle.scenario.specs.Tree.{Tree}
@@ -17,7 +17,7 @@ use Rattle.moment.specs.Moments.{IsAtRest, Moment, choices_at}
 use Rattle.moment.specs.Seen.{IsAt, Rests, Seen, choices_in}
 use Rattle.record_lines.specs.declared.entry.Entry.{Entry}
 use Rattle.record.specs.View.{RecordingView, steps_of}
-use Rattle.violations.specs.Violations.{HasNoViolation}
+use Rattle.monitor.specs.Violations.{HasNoViolation}
 use Rattle.trials.specs.Terms.{Terms}
 use Rattle.trials.specs.Moments.{IsPath, first_moment}
 use Rattle.trials.specs.declared.verdict.Verdict.{Verdict}

@@ -1,6 +1,6 @@
 -- The steps of a run of a trial, and its ends.
 use Rattle.std.proofs.Common.{◌≡◌, ◌<◌, ◌≤◌, ◌+◌, ℕ, Option, Some, None, length, ap, sym, subst, ◌∙◌, arith}
-use Rattle.violations.specs.declared.violation.Violation.{Violation}
+use Rattle.monitor.specs.declared.violation.Violation.{Violation}
 use Rattle.scenario.specs.Tree.{Tree}
 use Rattle.record.specs.View.{RecordingView}
 use Rattle.trials.specs.declared.course.Course as course
@@ -8,7 +8,7 @@ use Rattle.trials.specs.declared.verdict.Verdict.{Verdict}
 use Rattle.trials.specs.declared.verdict.Verdict.TheVariants.{Cut}
 use Rattle.trials.specs.Terms.{Terms}
 use Rattle.trials.specs.Trial.{IsTrial}
-use Rattle.trials.specs.inner.Going.{Begins, Chooses, Course, Ends, GoesOn, IsGoing, IsStart, IsVerdictAtRest, Makes, MakesNoted, parts_of}
+use Rattle.trials.specs.inner.Going.{Begins, Chooses, Course, Ends, GoesOn, IsGoing, IsStart, IsVerdictAtRest, MakesAndNotes, MakesNoted, parts_of}
 use Rattle.trials.proofs.Pushing.{length-push}
 
 -- whatever trial began so is going, with so many entries
@@ -28,7 +28,7 @@ RestEnds = (terms : Terms) (tree : Tree) (number : ℕ) (c chosen : Course) (ver
 abbrev pub StepGoes : Type 0
 StepGoes = (terms : Terms) (tree : Tree) (number : ℕ) (c chosen made : Course) (k : ℕ) (violation : Option Violation) →
     IsGoing terms tree number c → length c.recording.entries < terms.limit → Chooses c
-    (Some k) chosen → Makes chosen k made violation → GoesOn terms tree number made violation
+    (Some k) chosen → MakesAndNotes chosen k made violation → GoesOn terms tree number made violation
 
 abbrev pub LimitCuts : Type 0
 LimitCuts = (terms : Terms) (tree : Tree) (number : ℕ) (c chosen : Course) (k : ℕ) →
@@ -58,7 +58,7 @@ room-left {A} {N} tells old c chosen limit made start come low notes =
 
 -- it has one entry more
 pub one-more-entry : (c chosen made : Course) (k : ℕ) (shown : Option Violation) → Chooses c (Some k) chosen →
-    Makes chosen k made shown → length made.recording.entries ≡ length c.recording.entries + 1
+    MakesAndNotes chosen k made shown → length made.recording.entries ≡ length c.recording.entries + 1
 one-more-entry c chosen made k shown taken m =
     ap (λ (r : RecordingView). length r.entries) m.recorded ∙ length-push chosen.recording.entries (record { step = m.step; outcome = m.made.outcome })
     ∙ ap (λ (x : Course). length x.recording.entries + 1) taken.2
@@ -79,7 +79,7 @@ step-goes goes {A} {N} tells old c chosen new limit made found k shown violation
       next.1,
       one-more-entry (parts_of at.0 c) (parts_of at.0 chosen) (parts_of next.0 new) k shown taken next.2 ∙ ap (λ (n : ℕ). n + 1) count,
       goes terms tree number (parts_of at.0 c) (parts_of at.0 chosen) (parts_of next.0 new) k violation at.3 (omega (arith, low, same, count)) taken
-          (subst (λ (x : Option Violation). Makes (parts_of at.0 chosen) k (parts_of next.0 new) x) shows next.2),
+          (subst (λ (x : Option Violation). MakesAndNotes (parts_of at.0 chosen) k (parts_of next.0 new) x) shows next.2),
     )
 
 -- at the limit there is a choice

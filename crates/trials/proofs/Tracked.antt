@@ -1,7 +1,7 @@
 -- The moments of a path keep the cores tracked.
 use Rattle.std.proofs.Common.{◌≡◌, ◌<◌, ℕ, zero, suc, List, length, Some, slice_get, sym}
 use Rattle.std.proofs.Common.{ap, ◌∙◌, subst, arith, add-one}
-use Rattle.both_tables.specs.Tables.{Tables}
+use Rattle.tables.specs.Tables.{Tables}
 use Rattle.scenario.specs.Tree.{Tree}
 use Rattle.schedule.specs.Choices.{chosen_step}
 use Rattle.record_lines.specs.declared.entry.Entry.{Entry}

@@ -8,7 +8,7 @@ use Rattle.std.proofs.lemmas.List.Elements.{filter-append}
 use Rattle.base.specs.declared.step.Ask.{Ask}
 use Rattle.base.specs.declared.step.CoreAsk.{CoreAsk}
 use Rattle.base.specs.declared.step.Step.{Step}
-use Rattle.both_tables.specs.Tables.{Tables}
+use Rattle.tables.specs.Tables.{Tables}
 use Rattle.machine.specs.Machine.{State, Next, next}
 use Rattle.machine.specs.Completions.{Completion, completed_by}
 use Rattle.cores.specs.Cores.{Core, issuing, finishing, with_core}

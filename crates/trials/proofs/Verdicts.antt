@@ -3,12 +3,12 @@ use Rattle.std.proofs.Common.{◌≡◌, ◌≢◌, ◌+◌, ℕ, List, take, re
 use Rattle.std.proofs.lemmas.List.{take_all}
 use Rattle.base.specs.Extent.{Extent}
 use Rattle.base.specs.declared.step.Step.{Step}
-use Rattle.both_tables.specs.Tables.{Tables}
+use Rattle.tables.specs.Tables.{Tables}
 use Rattle.machine.specs.Machine.{opened, state_after, outcomes_of}
 use Rattle.machine.specs.Coherence.{Safe}
-use Rattle.violations.specs.declared.violation.Violation.{Violation}
+use Rattle.monitor.specs.declared.violation.Violation.{Violation}
 use Rattle.record.specs.View.{RecordingView, IsLegal, steps_of, told_by}
-use Rattle.violations.specs.Violations.{IsFirstViolation}
+use Rattle.monitor.specs.Violations.{IsFirstViolation}
 use Rattle.scenario.specs.Tree.{Tree}
 use Rattle.schedule.specs.Words.{word}
 use Rattle.trials.specs.Terms.{Terms}

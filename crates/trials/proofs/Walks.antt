@@ -1,6 +1,6 @@
 -- A path without the list of its moments.
 use Rattle.std.proofs.Common.{◌≡◌, ◌+◌, ℕ, suc, List, [], ◌∷◌, length, map, Some, slice_get, refl, sym, ap, ◌∙◌, subst, arith}
-use Rattle.both_tables.specs.Tables.{Tables}
+use Rattle.tables.specs.Tables.{Tables}
 use Rattle.machine.specs.Machine.{next, state_after, outcomes_of}
 use Rattle.record_lines.specs.declared.entry.Entry.{Entry}
 use Rattle.scenario.specs.Tree.{Tree}

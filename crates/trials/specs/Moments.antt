@@ -1,7 +1,7 @@
 -- How a word leads from a moment of a trial to the next.
 use Rattle.std.specs.Prelude.{◌≡◌, ◌+◌, ◌%◌, ℕ, List, Some, length, slice_get}
 use Rattle.base.specs.declared.step.Step.{Step}
-use Rattle.both_tables.specs.Tables.{Tables}
+use Rattle.tables.specs.Tables.{Tables}
 use Rattle.machine.specs.Machine.{Next, next}
 use Rattle.scenario.specs.Tree.{Tree}
 use Rattle.schedule.specs.Choices.{chosen_step, rest_after}

@@ -3,7 +3,7 @@ use Rattle.std.specs.Prelude.{◌≡◌, ◌≢◌, ◌≤◌, ◌+◌, ℕ, Lis
 use Rattle.base.specs.declared.step.Step.{Step}
 use Rattle.scenario.specs.Tree.{Tree}
 use Rattle.record.specs.View.{RecordingView, steps_of}
-use Rattle.violations.specs.Violations.{HasNoViolation, IsFirstViolation}
+use Rattle.monitor.specs.Violations.{HasNoViolation, IsFirstViolation}
 use Rattle.trials.specs.declared.verdict.Verdict.{Verdict}
 use Rattle.trials.specs.declared.verdict.Verdict.TheVariants.{Quiet, Cut, Stuck, Broke}
 use Rattle.trials.specs.declared.verdict.TrialResult.{TrialResult}

@@ -7,11 +7,11 @@ use crate::verdict::Verdict;
 use base::NoMemory;
 use bumpalo::Bump;
 use moment::Moment;
+use monitor::{Violation, violation_after};
 use record::Entry;
 use scenario::Scenario;
 use schedule::Dice;
 use std::alloc::{Allocator, Global};
-use violations::{Violation, violation_after};
 
 /// A trial on its way: its moment, with what is made for the scenario in an arena, and notes of what it has done.
 pub(crate) struct Course<'s, 'b, A: Allocator, N: Notes> {

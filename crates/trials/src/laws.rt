@@ -29,7 +29,7 @@ pub fn trials_break_where_they_arent_safe()
         IsTrial terms tree number recording verdict →
         HasBroken verdict ↔ (¬ Safe terms.shape terms.tables terms.opening (steps_of recording)) }
 {
-    violations::violations_are_what_isnt_safe();
+    monitor::violations_are_what_isnt_safe();
 }
 
 /// Under tables of which each run is safe no trial breaks, and the completions of each are sequentially consistent; and where none
@@ -84,5 +84,5 @@ pub fn one_trial_a_number()
     ensures { (terms : Terms) (tree : Tree) (number : ℕ) (one other : RecordingView) (verdict another : Verdict) →
         IsTrial terms tree number one verdict → IsTrial terms tree number other another → (one ≡ other) × (verdict ≡ another) }
 {
-    violations::one_violation_at_most();
+    monitor::one_violation_at_most();
 }

@@ -1,4 +1,5 @@
-//! Trials: runs of a world under a scenario, in which dice choose what happens next, and batches of them.
+//! Trials: runs of a world under a scenario, in which dice choose what happens next. And many of them: series in the same
+//! memory, batches, and batches that are spread over threads.
 #![tactic(auto)]
 
 mod batches;

@@ -3,10 +3,10 @@ ghost use Rattle.machine.specs.Machine.{opened};
 ghost use Rattle.record.specs.View.{opened_recording};
 
 use base::{NoMemory, Shape};
-use both_tables::Tables;
 use record::Recording;
 use std::alloc::Global;
 use std::marker::Model;
+use tables::Tables;
 use thiserror::Error;
 use world::World;
 
@@ -117,7 +117,7 @@ impl Setup {
 
 /// A world under `setup` that has made no step.
 ///
-/// It isn't a method, since a type's users load what its methods speak of ("What is loaded", docs/GATE.md).
+/// It isn't a method, since a type's users load what its methods speak of ("What is loaded", CONTRIBUTING.md).
 pub fn open_world(alloc: Global, setup: &Setup) -> Result<World, NoMemory>
     ensures shape { IfOk result (λ world. world.shape ≡ setup.now.shape) }
     ensures tables { IfOk result (λ world. world.tables ≡ setup.now.tables) }

@@ -1,6 +1,6 @@
+use monitor::Violation;
 use record::Recording;
 use std::fmt;
-use violations::Violation;
 
 /// How a trial ended.
 #[derive(Clone, Copy, Debug, PartialEq, Eq)]

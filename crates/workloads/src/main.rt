@@ -1,23 +1,24 @@
-//! `msi` in memory: the jobs that users of `msi` wait for, over inputs that a seed makes, which `bench/run` times; and sessions of
-//! `msi`, which `rt ci` compares with what has to come of them.
+//! `msi` in memory: the jobs that users of `msi` wait for, over inputs that a seed makes, which `bench/run` times; and
+//! sessions of `msi`, which `rt ci` compares with what has to come of them.
 //!
-//! `workloads JOB SEED SIZE` does one job, and `workloads all SEED SIZE` does each of them. It prints a digest of all that
-//! `msi` prints there. `workloads sessions` goes through the files of sessions that its standard input names, a line each, and
-//! prints how many command lines each has, and what came to something else than is written there (`comparing.rt` of the crate
-//! `sessions` tells how they are written). `workloads completed FILE` prints such a file with what comes of its command lines now.
+//! `workloads JOB SEED SIZE` does one job, and `workloads all SEED SIZE` does each of them. It prints a digest of all
+//! that `msi` prints there. `workloads sessions` goes through the files of sessions that its standard input names, a line
+//! each, and prints how many command lines each has, and what came to something else than is written there
+//! (`comparing.rt` of the crate `transcripts` tells how they are written). `workloads completed FILE` prints such a file
+//! with what comes of its command lines now.
 #![tactic(auto)]
 
 mod files;
 mod serving;
 
 use serving::Msi;
-use sessions::{Comparison, Fault, compare, tell_jobs};
+use sheet::Sheet;
 use std::alloc::Global;
 use std::process::ExitCode;
 use std::sync::Wait;
 use std::thread::Threads;
 use std::{env, fs, io, rt};
-use story::Sheet;
+use transcripts::{Comparison, SessionFault, compare, tell_jobs};
 
 /// The words of the command line, the program's name first.
 fn words(rt: &HostRuntime) -> io::Result<Vec<String>> {
@@ -45,10 +46,10 @@ fn work<R: Threads + Wait + Sync + rt::Files + AllocGlobal>(
     words: &io::Result<Vec<String>>,
     input: &Option<io::Result<String>>,
     told: &mut Sheet,
-) -> Result<(), Fault> {
+) -> Result<(), SessionFault> {
     match (input, words) {
         (Some(Ok(names)), _) => compare_all(rt, alloc, names.as_str(), told),
-        (Some(Err(_)), _) | (None, Err(_)) => Err(Fault::Device),
+        (Some(Err(_)), _) | (None, Err(_)) => Err(SessionFault::Device),
         (None, Ok(words)) => match words.as_slice() {
             [_, word, file] if word.as_str() == "completed" => {
                 told.push(comparison_of(rt, alloc, file.as_str())?.completed.text()?);
@@ -58,7 +59,7 @@ fn work<R: Threads + Wait + Sync + rt::Files + AllocGlobal>(
                 let (name, seed, size) = (name.as_str(), seed.as_str(), size.as_str());
                 tell_jobs(rt, alloc, &Msi, name, seed, size, told)
             }
-            _ => Err(Fault::Words),
+            _ => Err(SessionFault::Words),
         },
     }
 }
@@ -69,20 +70,24 @@ fn compare_all<R: Threads + Wait + Sync + rt::Files + AllocGlobal>(
     alloc: Global,
     names: &str,
     told: &mut Sheet,
-) -> Result<(), Fault> {
+) -> Result<(), SessionFault> {
     let mut differs = false;
     for name in names.lines() {
         let found = comparison_of(rt, alloc, name)?;
+        let count = found.count;
         let differences = found.differences.text()?;
         told.push(name);
         told.push(": ");
-        told.put(&found.count);
-        told.push(" command lines\n");
+        told.put(&count);
+        told.push(match count {
+            1 => " command line\n",
+            _ => " command lines\n",
+        });
         told.push(differences);
         differs = differs || !differences.is_empty();
     }
     if differs {
-        return Err(Fault::Differs);
+        return Err(SessionFault::Differs);
     }
     Ok(())
 }
@@ -92,18 +97,18 @@ fn comparison_of<R: Threads + Wait + Sync + rt::Files + AllocGlobal>(
     rt: &R,
     alloc: Global,
     name: &str,
-) -> Result<Comparison, Fault> {
-    let bytes = fs::read(rt, name).map_err(|_| Fault::File)?;
-    let text = str::from_utf8(bytes.as_slice()).map_err(|_| Fault::File)?;
+) -> Result<Comparison, SessionFault> {
+    let bytes = fs::read(rt, name).map_err(|_| SessionFault::File)?;
+    let text = str::from_utf8(bytes.as_slice()).map_err(|_| SessionFault::File)?;
     compare(rt, alloc, &Msi, text)
 }
 
 /// Prints what was told.
-fn print(rt: &HostRuntime, told: &Sheet) -> Result<(), Fault> {
+fn print(rt: &HostRuntime, told: &Sheet) -> Result<(), SessionFault> {
     let text = told.text()?;
     match print!(rt; "{text}") {
         Ok(()) => Ok(()),
-        Err(_) => Err(Fault::Device),
+        Err(_) => Err(SessionFault::Device),
     }
 }
 

@@ -1,10 +1,10 @@
 use crate::files::OneFile;
 use commands::serve;
-use sessions::{Input, Output, Server};
 use std::alloc::Global;
 use std::io;
 use std::sync::Wait;
 use std::thread::Threads;
+use transcripts::{Input, Output, Server};
 
 /// `msi` over files and streams in memory.
 pub struct Msi;

@@ -7,7 +7,7 @@ use Rattle.base.specs.declared.ids.CacheId.{CacheId}
 use Rattle.base.specs.declared.ids.Place.TheVariants.{Cache}
 use Rattle.base.specs.declared.step.Ask.{Ask}
 use Rattle.base.specs.declared.step.Step.TheVariants as step
-use Rattle.cache_line.specs.declared.line.Line.{Line}
+use Rattle.control.specs.declared.line.Line.{Line}
 use Rattle.machine.specs.Block.{BlockState}
 use Rattle.machine.specs.Coherence.{line_at}
 use Rattle.machine.specs.Machine.{State}

@@ -4,7 +4,7 @@ use Rattle.std.specs.Option.{option_map}
 use Rattle.std.proofs.Math.ListN.{get_or-map}
 use Rattle.network.specs.Marks.{Marks}
 use Rattle.machine.specs.Block.{BlockState, opened_block}
-use Rattle.both_tables.specs.Tables.{Tables}
+use Rattle.tables.specs.Tables.{Tables}
 use Rattle.blocks.specs.View.{BlockView}
 use Rattle.blocks.specs.Marking.{marks_of}
 use Rattle.rows.specs.Flags.{is_set}

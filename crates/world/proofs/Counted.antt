@@ -13,7 +13,7 @@ use Rattle.rows.proofs.Bridge.{get_front, get_behind}
 use Rattle.base.specs.declared.ids.BlockId.{BlockId}
 use Rattle.base.specs.declared.step.Step.{Step}
 use Rattle.base.specs.declared.step.Step.TheVariants as step
-use Rattle.both_tables.specs.Tables.{Tables}
+use Rattle.tables.specs.Tables.{Tables}
 use Rattle.machine.specs.Block.{BlockState}
 use Rattle.machine.specs.Machine.{State}
 use Rattle.world.specs.Enabled.{requests_enabled, heads_in, responses_enabled, of_each, all_enabled, enabled_steps}

@@ -8,7 +8,7 @@ use Rattle.base.specs.declared.ids.BlockId.{BlockId}
 use Rattle.base.specs.declared.step.Step.{Step}
 use Rattle.base.specs.Extent.{Extent}
 use Rattle.network.specs.Marks.{no_marks}
-use Rattle.both_tables.specs.Tables.{Tables}
+use Rattle.tables.specs.Tables.{Tables}
 use Rattle.machine.specs.Block.{BlockState, opened_block}
 use Rattle.machine.specs.Machine.{State}
 use Rattle.world.specs.Enabled.{all_enabled, enabled_at_block, kind_enabled, kind_found}
@@ -16,8 +16,8 @@ use Rattle.blocks.specs.View.{BlockView}
 use Rattle.blocks.specs.Marking.{marks_of, free_requests, free_heads, free_responses}
 use Rattle.network.specs.Marks.{is_stopped, unmarked}
 use Rattle.world.specs.View.{state_or, states}
-use Rattle.world.specs.declared.counts.Kind.{Kind}
-use Rattle.world.specs.declared.counts.Kind.TheVariants.{Request, Head, Response}
+use Rattle.world.specs.declared.counts.DeliveryKind.{DeliveryKind}
+use Rattle.world.specs.declared.counts.DeliveryKind.TheVariants.{Request, Head, Response}
 use Rattle.world.specs.declared.counts.Spot.{Spot}
 use Rattle.world.specs.inner.Counts.{row_of_kind, step_at, step_in, step_of_kind, AreCounted, FallsAt, Rows}
 use Rattle.world.specs.inner.Holding.{kept_at, IsWorld}
@@ -41,7 +41,7 @@ no-heads zero i = refl
 no-heads (suc n) i = no-heads n (i + 1)
 
 -- a block that nothing has happened to delivers nothing
-none-step : (n : ℕ) (kind : Kind) (block rest : ℕ) → None ≡ step_of_kind (no_marks n) kind block rest
+none-step : (n : ℕ) (kind : DeliveryKind) (block rest : ℕ) → None ≡ step_of_kind (no_marks n) kind block rest
 none-step n Request block rest = refl
 none-step n Head block rest = rw (no-heads n 0) refl
 none-step n Response block rest = refl
@@ -65,7 +65,7 @@ delivery-right shape tables values ks rows s k spot h blocks falls =
     ∙ sym (spot-step tables s.blocks rows h.counted k spot there.0 falls there.1)
 
 -- the step at a spot of a block is one of those of its kind
-kind-kth : (tables : Tables) (kind : Kind) (n k : ℕ) (b : BlockState) →
+kind-kth : (tables : Tables) (kind : DeliveryKind) (n k : ℕ) (b : BlockState) →
     step_of_kind (marks_of tables b) kind n k ≡ slice_get (kind_enabled tables kind (record { 0 = n }) b) k
 kind-kth tables Request n k b = sym (requests-kth tables (record { 0 = n }) b k)
 kind-kth tables Head n k b = sym (heads-kth tables (record { 0 = n }) b k)
@@ -90,7 +90,7 @@ delivery-of shape tables values ks rows s spot h blocks =
     ]
 
 -- a row has of each block how many it delivers of a kind
-row-of : (tables : Tables) (kind : Kind) (count : BlockState → ℕ) →
+row-of : (tables : Tables) (kind : DeliveryKind) (count : BlockState → ℕ) →
     ((block : BlockId) (b : BlockState) → length (kind_enabled tables kind block b) ≡ count b) →
     (bs : List BlockState) (numbers : List ℕ) (n : ℕ) → numbers ≡ map count bs →
     slice_index_or numbers n 0 ≡ length (kind_found tables kind (record { 0 = n }) (slice_get bs n))
@@ -108,7 +108,7 @@ row-of tables kind count counts bs numbers n e =
           ∙ ap (λ o. length (kind_found tables kind (record { 0 = n }) o)) (sym (slice_get_past bs n past))
     ]
 
-pub count-of : (tables : Tables) (bs : List BlockState) (rows : Rows) (kind : Kind) (n : ℕ) →
+pub count-of : (tables : Tables) (bs : List BlockState) (rows : Rows) (kind : DeliveryKind) (n : ℕ) →
     AreCounted tables bs rows.requests rows.heads rows.responses →
     slice_index_or (row_of_kind rows kind) n 0 ≡ length (kind_found tables kind (record { 0 = n }) (slice_get bs n))
 count-of tables bs rows Request n h = row-of tables Request (free_requests tables) (requests-count tables) bs rows.requests n h.of_requests

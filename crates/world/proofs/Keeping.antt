@@ -9,7 +9,7 @@ use Rattle.std.specs.Option.{option_map}
 use Rattle.base.specs.declared.step.Step.{Step}
 use Rattle.base.specs.declared.step.Outcome.{Outcome}
 use Rattle.control.specs.LineEffect.{opened_line}
-use Rattle.both_tables.specs.Tables.{Tables}
+use Rattle.tables.specs.Tables.{Tables}
 use Rattle.machine.specs.Block.{BlockState, opened_block}
 use Rattle.machine.specs.Transition.{Transition, decision_of, transition}
 use Rattle.machine.specs.Machine.{State}

@@ -8,7 +8,7 @@ use Rattle.std.proofs.lemmas.Option.{slice_get-map}
 use Rattle.base.specs.declared.ids.BlockId.{BlockId}
 use Rattle.base.specs.declared.ids.CacheId.{CacheId}
 use Rattle.base.specs.declared.ids.Place.TheVariants.{Dir, Cache}
-use Rattle.base.specs.declared.controller.entry.Entry.TheVariants as table_entry
+use Rattle.base.specs.declared.controller.entry.CellEntry.TheVariants as table_entry
 use Rattle.base.specs.declared.step.Step.{Step}
 use Rattle.base.specs.declared.step.Step.TheVariants as step
 use Rattle.network.specs.declared.message.Request.{Request}
@@ -20,26 +20,25 @@ use Rattle.cache_table.specs.Table as cache_table
 use Rattle.cache_table.specs.Table.{CacheEntry}
 use Rattle.directory_table.specs.Table as directory_table
 use Rattle.directory_table.specs.Table.{DirectoryEntry}
-use Rattle.cache_line.specs.declared.line.Line.{Line}
-use Rattle.cache_line.specs.declared.line.LineInput.{LineInput}
-use Rattle.cache_line.specs.declared.line.LineInput.TheVariants as line_input
-use Rattle.cache_line.specs.declared.line.LineCompletion.{LineCompletion}
-use Rattle.cache_line.specs.declared.line.LineCompletion.TheVariants as done
-use Rattle.block_home.specs.declared.home.HomeInput.{HomeInput}
-use Rattle.block_home.specs.declared.home.HomeInput.TheVariants as home_input
-use Rattle.control.specs.Events.{event_at_line, event_at_home}
+use Rattle.control.specs.declared.line.Line.{Line}
+use Rattle.control.specs.declared.line.LineInput.{LineInput}
+use Rattle.control.specs.declared.line.LineInput.TheVariants as line_input
+use Rattle.control.specs.declared.line.LineCompletion.{LineCompletion}
+use Rattle.control.specs.declared.line.LineCompletion.TheVariants as done
+use Rattle.control.specs.declared.home.HomeInput.{HomeInput}
+use Rattle.control.specs.declared.home.HomeInput.TheVariants as home_input
+use Rattle.control.specs.LineEvents.{event_at_line}
+use Rattle.control.specs.HomeEvents.{event_at_home}
 use Rattle.control.specs.LineEffect.{line_completes}
 use Rattle.machine.specs.declared.decision.Origin.{Origin}
 use Rattle.machine.specs.declared.decision.Origin.TheVariants as origin
-use Rattle.both_tables.specs.Tables.{Tables}
+use Rattle.tables.specs.Tables.{Tables}
 use Rattle.machine.specs.Block.{BlockState}
 use Rattle.machine.specs.Transition.{at_line, at_home, at_request, at_forward, at_response, by_line_entry, by_home_entry, carried_out, outcome_of}
-use Rattle.blocks.specs.Looks.{is_held}
-use Rattle.blocks.specs.Looks.{held_in}
+use Rattle.blocks.specs.Looks.{is_held, held_in}
 use Rattle.world.specs.Enabled.{requests_from, heads_from, responses_from, requests_enabled, heads_in, responses_enabled}
-use Rattle.blocks.specs.Marking.{is_stall, home_stalls, line_stalls, response_stalls, links_stall, marks_of}
+use Rattle.blocks.specs.Marking.{is_stall, home_stalls, line_stalls, response_stalls, links_stall, marks_of, free_requests, free_heads, free_responses}
 use Rattle.network.specs.Marks.{unmarked, unmarked_heads}
-use Rattle.blocks.specs.Marking.{free_requests, free_heads, free_responses}
 use Rattle.network.proofs.UnmarkedPlaces.{unmarked-length, unmarked_heads-length}
 
 -- ---- a step is held exactly where its cell is a stall

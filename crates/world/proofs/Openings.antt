@@ -7,7 +7,7 @@ use Rattle.std.proofs.lemmas.List.{length-replicate, length-set}
 use Rattle.base.specs.Extent.{Extent, IsWithinLimits}
 use Rattle.network.specs.Traffic.{quiet}
 use Rattle.control.specs.LineEffect.{opened_line}
-use Rattle.both_tables.specs.Tables.{Tables}
+use Rattle.tables.specs.Tables.{Tables}
 use Rattle.machine.specs.Block.{BlockState, opened_block}
 use Rattle.blocks.specs.Marking.{free_heads, free_requests, free_responses}
 use Rattle.blocks.specs.View.{BlockView}

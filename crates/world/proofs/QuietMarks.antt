@@ -4,9 +4,9 @@ use Rattle.std.proofs.Common.{refl, sym, ap, ◌∙◌, zero, suc}
 use Rattle.network.specs.Marks.{Marks, no_marks}
 use Rattle.network.specs.Traffic.{Traffic, quiet}
 use Rattle.cache_table.specs.Table as cache_table
-use Rattle.cache_line.specs.declared.line.Line.{Line}
-use Rattle.block_home.specs.declared.home.HomeInput.TheVariants as home_input
-use Rattle.both_tables.specs.Tables.{Tables}
+use Rattle.control.specs.declared.line.Line.{Line}
+use Rattle.control.specs.declared.home.HomeInput.TheVariants as home_input
+use Rattle.tables.specs.Tables.{Tables}
 use Rattle.machine.specs.Block.{BlockState, opened_block}
 use Rattle.world.specs.inner.Counts.{AreCounted}
 use Rattle.blocks.specs.Marking.{home_stalls, response_stalls, links_stall, marks_of}

@@ -2,7 +2,7 @@ use Rattle.std.proofs.Common.{◌≡◌, ℕ, ◌<◌, ◌≤◌, ◌+◌, List,
 use Rattle.std.proofs.lemmas.List.{take_more}
 use Rattle.base.specs.declared.step.Step.{Step}
 use Rattle.base.specs.declared.step.Outcome.{Outcome}
-use Rattle.both_tables.specs.Tables.{Tables}
+use Rattle.tables.specs.Tables.{Tables}
 use Rattle.base.specs.Steps.{block_of}
 use Rattle.machine.specs.Machine.{Next, State, next, sent_by, state_after, outcomes_of}
 use Rattle.world.specs.Messages.{messages_at, raised}

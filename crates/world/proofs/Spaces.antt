@@ -7,7 +7,7 @@ use Rattle.std.proofs.lemmas.List.{length-append, take_more}
 use Rattle.base.specs.Extent.{Extent}
 use Rattle.base.specs.Steps.{block_of}
 use Rattle.base.specs.declared.step.Step.{Step}
-use Rattle.both_tables.specs.Tables.{Tables}
+use Rattle.tables.specs.Tables.{Tables}
 use Rattle.machine.specs.Machine.{State, next, state_after}
 use Rattle.machine.specs.Transition.{decision_of}
 use Rattle.blocks.specs.View.{BlockView, Space, acts, acts_at_line}

@@ -2,13 +2,13 @@
 use Rattle.std.proofs.Common.{◌≡◌, ℕ, ◌-◌, ◌≤◌, List, Some, None, length, slice_get}
 use Rattle.std.proofs.Common.{arith, subst}
 use Rattle.rows.specs.Counts.{Finds}
-use Rattle.both_tables.specs.Tables.{Tables}
+use Rattle.tables.specs.Tables.{Tables}
 use Rattle.machine.specs.Block.{BlockState}
 use Rattle.world.specs.Enabled.{all_enabled}
 use Rattle.world.specs.inner.Counts.{AreCounted}
 use Rattle.blocks.specs.Marking.{marks_of, free_requests, free_heads, free_responses}
-use Rattle.world.specs.declared.counts.Kind.{Kind}
-use Rattle.world.specs.declared.counts.Kind.TheVariants.{Request, Head, Response}
+use Rattle.world.specs.declared.counts.DeliveryKind.{DeliveryKind}
+use Rattle.world.specs.declared.counts.DeliveryKind.TheVariants.{Request, Head, Response}
 use Rattle.world.specs.declared.counts.Spot.{Spot}
 use Rattle.world.specs.inner.Counts.{all_in, count_before, row_of_kind, step_at, step_of_kind, FallsAt, FallsInRow, Rows}
 use Rattle.world.proofs.Counted.{enabled-count, enabled-request-step, enabled-head-step, enabled-response-step, enabled-none, found-there}
@@ -19,7 +19,7 @@ module _ (tables : Tables) (bs : List BlockState) (rows : Rows) (counted : AreCo
   all-counted = enabled-count tables bs rows.requests rows.heads rows.responses counted
 
   -- the block of a spot is there
-  kind-there : (k : ℕ) (kind : Kind) (block rest : ℕ) → FallsInRow (row_of_kind rows kind) (count_before rows kind) k block rest →
+  kind-there : (k : ℕ) (kind : DeliveryKind) (block rest : ℕ) → FallsInRow (row_of_kind rows kind) (count_before rows kind) k block rest →
       (b : BlockState) × (slice_get bs block ≡ Some b)
   kind-there k Request block rest falls = found-there (free_requests tables) bs rows.requests _ block rest counted.of_requests falls.found
   kind-there k Head block rest falls = found-there (free_heads tables) bs rows.heads _ block rest counted.of_heads falls.found
@@ -29,7 +29,7 @@ module _ (tables : Tables) (bs : List BlockState) (rows : Rows) (counted : AreCo
   spot-there k spot falls = kind-there k spot.kind spot.block spot.rest falls
 
   -- the k-th is the step there
-  kind-step : (k : ℕ) (kind : Kind) (block rest : ℕ) (b : BlockState) → FallsInRow (row_of_kind rows kind) (count_before rows kind) k block rest →
+  kind-step : (k : ℕ) (kind : DeliveryKind) (block rest : ℕ) (b : BlockState) → FallsInRow (row_of_kind rows kind) (count_before rows kind) k block rest →
       slice_get bs block ≡ Some b → slice_get (all_enabled tables bs) k ≡ step_of_kind (marks_of tables b) kind block rest
   kind-step k Request block rest b falls there =
       let same : k - 0 ≡ k = omega arith in

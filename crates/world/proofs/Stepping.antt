@@ -11,7 +11,7 @@ use Rattle.machine.specs.Block.{BlockState}
 use Rattle.machine.specs.declared.made.Made.{Made}
 use Rattle.machine.specs.Made.{made_at, made_in, made_of}
 use Rattle.machine.specs.Machine.{State, is_blank, next, next_at, sent_at, sent_by}
-use Rattle.both_tables.specs.Tables.{Tables}
+use Rattle.tables.specs.Tables.{Tables}
 use Rattle.machine.specs.Transition.{Transition, decision_of, messages_of, transition}
 use Rattle.std.proofs.Math.Nat.{le-min, min-le_left, min-le_right}
 use Rattle.std.specs.Option.{option_map_or}
@@ -23,7 +23,7 @@ use Rattle.world.specs.inner.Counts.{AreCounted}
 use Rattle.blocks.specs.Marking.{free_heads, free_requests, free_responses}
 use Rattle.blocks.specs.declared.block.testing.Tested.{Tested}
 use Rattle.world.specs.inner.Counts.{Rows}
-use Rattle.world.specs.inner.Holding.{kept_at, IsLight, IsWorld, OthersStay}
+use Rattle.world.specs.inner.Holding.{kept_at, SendsAndWakesNothing, IsWorld, OthersStay}
 use Rattle.world.specs.inner.Tests.{counted, IsMarked}
 use Rattle.world.specs.inner.Tests.{IsTested, tested_in}
 use Rattle.world.proofs.Counted.{counted-set}
@@ -64,7 +64,7 @@ room-back shape tables values ks broken tested step v e h whole =
 -- so is what it wants
 pub light-in : (shape : Extent) (tables : Tables) (values : List ℕ) (ks : List (Option BlockView)) (tested : ℕ) (step : Step) (v : ℕ) →
     Some v ≡ slice_get values (block_of step) → sent_by tables (state_of shape values ks false) step ≡ [] →
-    wakes (view_of shape tables values ks false tested) step ≡ false → IsLight tables step (state_or shape.caches v (kept_at ks (block_of step)))
+    wakes (view_of shape tables values ks false tested) step ≡ false → SendsAndWakesNothing tables step (state_or shape.caches v (kept_at ks (block_of step)))
 light-in shape tables values ks tested step v e sends wakes =
     let there = state-there shape.caches values ks (block_of step) v e in
     record {

@@ -12,24 +12,24 @@ use Rattle.base.specs.declared.step.Step.TheVariants as step
 use Rattle.network.specs.declared.message.Forward.{Forward}
 use Rattle.cache_table.specs.Table.{CacheEntry}
 use Rattle.cache_table.specs.Table as cache_table
-use Rattle.base.specs.declared.controller.entry.Entry.TheVariants as table_entry
-use Rattle.cache_line.specs.declared.line.Line.{Line}
-use Rattle.cache_line.specs.declared.line.LineInput.TheVariants as line_input
+use Rattle.base.specs.declared.controller.entry.CellEntry.TheVariants as table_entry
+use Rattle.control.specs.declared.line.Line.{Line}
+use Rattle.control.specs.declared.line.LineInput.TheVariants as line_input
 use Rattle.control.specs.LineEffect.{opened_line}
-use Rattle.control.specs.Events.{event_at_line}
+use Rattle.control.specs.LineEvents.{event_at_line}
 use Rattle.machine.specs.declared.decision.Decision.{Decision}
 use Rattle.machine.specs.declared.decision.Decision.TheVariants.{Refused, AtLine, AtHome}
 use Rattle.machine.specs.declared.decision.Origin.TheVariants as origin
-use Rattle.both_tables.specs.Tables.{Tables}
+use Rattle.tables.specs.Tables.{Tables}
 use Rattle.machine.specs.Block.{BlockState, opened_block}
 use Rattle.machine.specs.Transition.{at_ask, at_forward, by_line_entry, decision_of, is_idle}
 use Rattle.rows.specs.Flags.{is_set}
-use Rattle.blocks.specs.Steps.{WantsNone}
+use Rattle.blocks.specs.Steps.{BlockNeedsNoMemory}
 use Rattle.blocks.specs.View.{BlockView, HasSpaceFor, Space, acts, acts_at_line, lines_after, wakes_line}
 use Rattle.world.specs.Keeping.{has_line}
 use Rattle.world.specs.View.{HasSpaceAt, space_of, state_or}
 use Rattle.blocks.specs.Marking.{marks_of}
-use Rattle.world.specs.inner.Holding.{kept_at, IsLight, OthersStay}
+use Rattle.world.specs.inner.Holding.{kept_at, SendsAndWakesNothing, OthersStay}
 use Rattle.world.specs.inner.Tests.{IsMarked}
 use Rattle.blocks.proofs.Opening.{no-message}
 
@@ -83,13 +83,13 @@ opened-wakes tables (step.Forward block cache) caches value w =
 opened-wakes tables (step.Response block index) caches value w = refl
 
 -- a step that wants nothing is made at a block that is kept, or nothing acts
-pub light-at : (tables : Tables) (s : Step) (caches value : ℕ) (old : Option BlockView) → IsLight tables s (state_or caches value old) →
+pub light-at : (tables : Tables) (s : Step) (caches value : ℕ) (old : Option BlockView) → SendsAndWakesNothing tables s (state_or caches value old) →
     (IsSome old) ⊎ (acts (decision_of tables s (state_or caches value old)) ≡ false)
 light-at tables s caches value None h = inr (opened-wakes tables s caches value h.wakes)
 light-at tables s caches value (Some k) h = inl refl
 
 -- what no cell acts on wants nothing
-pub idle-wants : (d : Decision) (b : BlockState) (space : Space) → acts d ≡ false → WantsNone d b space
+pub idle-wants : (d : Decision) (b : BlockState) (space : Space) → acts d ≡ false → BlockNeedsNoMemory d b space
 idle-wants (Refused what) b space none = inr (refl, refl)
 idle-wants (AtLine cache line input next actions from) b space none = absurd (cc)
 idle-wants (AtHome input next actions from) b space none = absurd (cc)
@@ -97,7 +97,7 @@ idle-wants (AtHome input next actions from) b space none = absurd (cc)
 -- where there is room at a block, kept or not, what is decided there wants nothing of the block that is kept then
 pub wants-at : (tables : Tables) (s : Step) (caches value : ℕ) (old : Option BlockView) (k : BlockView) → (IsSome old → old ≡ Some k) →
     k.state ≡ state_or caches value old →
-    HasSpaceAt (decision_of tables s (state_or caches value old)) (state_or caches value old) (space_of old) → WantsNone
+    HasSpaceAt (decision_of tables s (state_or caches value old)) (state_or caches value old) (space_of old) → BlockNeedsNoMemory
     (decision_of tables s k.state) k.state k.space
 wants-at tables s caches value None k kept same space = idle-wants _ _ _ (subst (λ b. acts (decision_of tables s b) ≡ false) (sym same) space)
 wants-at tables s caches value (Some old) k kept same space =

@@ -5,16 +5,16 @@ use Rattle.std.proofs.lemmas.List.{get_or-set_same, length-set}
 use Rattle.base.specs.declared.fault.NoMemory.{NoMemory}
 use Rattle.base.specs.declared.step.Step.{Step}
 use Rattle.network.proofs.Linked.{set-same}
-use Rattle.both_tables.specs.Tables.{Tables}
+use Rattle.tables.specs.Tables.{Tables}
 use Rattle.machine.specs.Made.{made_at}
 use Rattle.machine.specs.Transition.{decision_of, messages_of, transition}
 use Rattle.rows.specs.Flags.{is_set}
 use Rattle.blocks.specs.Marking.{marks_of}
-use Rattle.blocks.specs.Steps.{Stays, WantsNone}
+use Rattle.blocks.specs.Steps.{Stays, BlockNeedsNoMemory}
 use Rattle.blocks.specs.View.{BlockView, acts, acts_at_line, wakes_line}
 use Rattle.world.specs.Keeping.{has_line}
 use Rattle.world.specs.View.{space_of, state_or}
-use Rattle.world.specs.inner.AtBlock.{HasStayed, HasStepped, IsVisited, NeedsNone, Visits}
+use Rattle.world.specs.inner.AtBlock.{HasStayed, HasStepped, IsVisited, NeedsNoMemoryAt, Visits}
 use Rattle.world.specs.inner.Holding.{kept_at, state_at, OthersStay}
 use Rattle.world.specs.inner.Tests.{IsMarked, IsTested, tested_in}
 use Rattle.world.specs.declared.at_block.Visit.{Visit}
@@ -100,7 +100,7 @@ put-stay tables caches value number step old mid k new h s idle =
 -- what wants nothing of the row wants nothing of its block
 pub wants : (tables : Tables) (caches value number : ℕ) (step : Step) (old mid : List (Option BlockView)) (k : BlockView) →
     Kept tables caches value number step old mid k → (IsSome (kept_at old number) → kept_at old number ≡ Some k) →
-    NeedsNone tables caches value number step old → WantsNone (decision_of tables step k.state) k.state k.space
+    NeedsNoMemoryAt tables caches value number step old → BlockNeedsNoMemory (decision_of tables step k.state) k.state k.space
 wants tables caches value number step old mid k h same needs = elim needs [
   | inl room ↦ wants-at tables step caches value (kept_at old number) k same h.state room
   | inr light ↦ inr (
@@ -118,7 +118,7 @@ steps-or tables caches value number step old mid k new (Err refused) h v = tt
 
 pub stays-or : (tables : Tables) (caches value number : ℕ) (step : Step) (old mid : List (Option BlockView)) (k new : BlockView)
     (r : Result Visit NoMemory) → Kept tables caches value number step old mid k → OnErr r (Stays tables k new) →
-    (WantsNone (decision_of tables step k.state) k.state k.space → IsOk r) →
+    (BlockNeedsNoMemory (decision_of tables step k.state) k.state k.space → IsOk r) →
     OnErr r (HasStayed tables caches value number step old (set mid number (Some new)))
 stays-or tables caches value number step old mid k new (Ok visit) h s ok = tt
 stays-or tables caches value number step old mid k new (Err refused) h s ok =

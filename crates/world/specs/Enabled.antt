@@ -5,12 +5,12 @@ use Rattle.base.specs.declared.step.Step.TheVariants as step
 use Rattle.network.specs.declared.message.Request.{Request}
 use Rattle.network.specs.declared.message.Forward.{Forward}
 use Rattle.network.specs.declared.message.Response.{Response}
-use Rattle.both_tables.specs.Tables.{Tables}
+use Rattle.tables.specs.Tables.{Tables}
 use Rattle.machine.specs.Block.{BlockState}
 use Rattle.machine.specs.Machine.{State}
 use Rattle.blocks.specs.Looks.{held_in}
-use Rattle.world.specs.declared.counts.Kind.{Kind}
-use Rattle.world.specs.declared.counts.Kind.TheVariants as kind
+use Rattle.world.specs.declared.counts.DeliveryKind.{DeliveryKind}
+use Rattle.world.specs.declared.counts.DeliveryKind.TheVariants as kind
 
 -- a step, unless it would be held
 abbrev pub unless_held : Tables → Step → BlockState → List Step
@@ -47,18 +47,18 @@ abbrev pub responses_enabled : Tables → BlockId → BlockState → List Step
 responses_enabled tables block b = responses_from tables block b 0 b.traffic.responses
 
 -- those of a kind
-abbrev pub kind_enabled : Tables → Kind → BlockId → BlockState → List Step
+abbrev pub kind_enabled : Tables → DeliveryKind → BlockId → BlockState → List Step
 kind_enabled tables kind.Request block b = requests_enabled tables block b
 kind_enabled tables kind.Head block b = heads_in tables block b
 kind_enabled tables kind.Response block b = responses_enabled tables block b
 
 -- the same, if the block is there
-abbrev pub kind_found : Tables → Kind → BlockId → Option BlockState → List Step
+abbrev pub kind_found : Tables → DeliveryKind → BlockId → Option BlockState → List Step
 kind_found tables kind block None = []
 kind_found tables kind block (Some b) = kind_enabled tables kind block b
 
 -- those of a kind of one of all blocks, broken or not
-abbrev pub enabled_at_block : Tables → Kind → State → BlockId → List Step
+abbrev pub enabled_at_block : Tables → DeliveryKind → State → BlockId → List Step
 enabled_at_block tables kind s block = kind_found tables kind block (slice_get s.blocks block.0)
 
 -- what there is of each block, of those from a number on

@@ -8,11 +8,3 @@ pub mod Messages
 pub mod Coherent
 pub mod Again
 pub mod inner
-pub use Rattle.base.specs.Extent
-pub use Rattle.base.specs.Steps
-pub use Rattle.control.specs.Sharing
-pub use Rattle.both_tables.specs.Tables
-pub use Rattle.machine.specs.Block
-pub use Rattle.machine.specs.Machine
-pub use Rattle.machine.specs.Coherence
-pub use Rattle.machine.specs.Unstuck

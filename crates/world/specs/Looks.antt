@@ -9,7 +9,7 @@ use Rattle.network.specs.declared.message.Forward.{Forward}
 use Rattle.network.specs.declared.message.Message.{Message}
 use Rattle.network.specs.Traffic.{is_quiet, link}
 use Rattle.control.specs.LineEffect.{is_reader}
-use Rattle.both_tables.specs.Tables.{Tables}
+use Rattle.tables.specs.Tables.{Tables}
 use Rattle.machine.specs.Block.{BlockState}
 use Rattle.machine.specs.Machine.{State, next}
 use Rattle.blocks.specs.Looks.{is_held, message_in, place_in, writer_in}

@@ -7,7 +7,7 @@ use Rattle.base.specs.declared.step.Step.{Step}
 use Rattle.base.specs.declared.step.Outcome.{Outcome}
 use Rattle.directory_table.specs.declared.state.DirectoryState.{DirectoryState}
 use Rattle.control.specs.Sharing.{shares}
-use Rattle.both_tables.specs.Tables.{Tables}
+use Rattle.tables.specs.Tables.{Tables}
 use Rattle.machine.specs.declared.decision.Decision.{Decision}
 use Rattle.machine.specs.Block.{BlockState, opened_block}
 use Rattle.machine.specs.Transition.{decision_of}

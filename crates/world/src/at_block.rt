@@ -5,18 +5,18 @@ ghost use Rattle.machine.specs.Made.{made_at};
 ghost use Rattle.blocks.specs.View.{acts};
 ghost use Rattle.world.specs.Keeping.{has_line};
 ghost use Rattle.world.specs.View.{HasSpaceAt, space_of};
-ghost use Rattle.world.specs.inner.AtBlock.{HasStayed, HasStepped, NeedsNone, Visits};
-ghost use Rattle.world.specs.inner.Holding.{kept_at, state_at, IsLight, OthersStay};
+ghost use Rattle.world.specs.inner.AtBlock.{HasStayed, HasStepped, NeedsNoMemoryAt, Visits};
+ghost use Rattle.world.specs.inner.Holding.{kept_at, state_at, SendsAndWakesNothing, OthersStay};
 ghost use Rattle.world.specs.inner.Tests.{IsMarked};
 ghost use Rattle.blocks.specs.Marking.{marks_of};
-ghost use Rattle.blocks.specs.Steps.{Stays, WantsNone};
+ghost use Rattle.blocks.specs.Steps.{Stays, BlockNeedsNoMemory};
 
 use base::{NoMemory, Outcome, Step};
 use blocks::{Block, Controllers, Tested, decide_opened};
-use both_tables::Tables;
 use machine::{Decision, Made};
 use rows::Sparse;
 use std::alloc::Global;
+use tables::Tables;
 
 /// What a step came to at its block.
 #[derive(Clone, Copy)]
@@ -123,7 +123,7 @@ pub fn step_at(
     requires marked { IsMarked controllers.now (kept_at blocks.old.items number) }
     ensures ok { IfOk result (λ visit. HasStepped controllers.now caches value number step blocks.old.items visit blocks.new.items) }
     ensures err { OnErr result (HasStayed controllers.now caches value number step blocks.old.items blocks.new.items) }
-    ensures succeeds { NeedsNone controllers.now caches value number step blocks.old.items → IsOk result }
+    ensures succeeds { NeedsNoMemoryAt controllers.now caches value number step blocks.old.items → IsOk result }
 {
     if let Some(block) = blocks.get_mut(number) {
         return made_at(block, controllers, &step);
@@ -146,7 +146,7 @@ fn open_at(
     requires none { kept_at blocks.old.items number ≡ None }
     ensures ok { IfOk result (λ visit. HasStepped controllers.now caches value number step blocks.old.items visit blocks.new.items) }
     ensures err { OnErr result (HasStayed controllers.now caches value number step blocks.old.items blocks.new.items) }
-    ensures succeeds { NeedsNone controllers.now caches value number step blocks.old.items → IsOk result }
+    ensures succeeds { NeedsNoMemoryAt controllers.now caches value number step blocks.old.items → IsOk result }
 {
     let first = first_step_at(alloc, blocks, caches, value, number, controllers, &step)?;
     Ok(first)
@@ -168,7 +168,7 @@ fn first_step_at(
     requires none { kept_at blocks.old.items number ≡ None }
     ensures ok { IfOk result (λ visit. HasStepped controllers.now caches value number step.now blocks.old.items visit blocks.new.items) }
     ensures err { OnErr result (HasStayed controllers.now caches value number step.now blocks.old.items blocks.new.items) }
-    ensures succeeds { NeedsNone controllers.now caches value number step.now blocks.old.items → IsOk result }
+    ensures succeeds { NeedsNoMemoryAt controllers.now caches value number step.now blocks.old.items → IsOk result }
 {
     if let Some(outcome) = touch_opened(
         alloc,
@@ -196,7 +196,7 @@ fn made_at(block: &mut Block, controllers: &Controllers, step: &Step) -> Result<
     requires { block.old.marks ≡ marks_of controllers.now block.old.state }
     ensures ok { IfOk result (λ visit. Visits controllers.now block.old step.now visit block.new) }
     ensures err { OnErr result (Stays controllers.now block.old block.new) }
-    ensures succeeds { WantsNone (decision_of controllers.now step.now block.old.state) block.old.state block.old.space → IsOk result }
+    ensures succeeds { BlockNeedsNoMemory (decision_of controllers.now step.now block.old.state) block.old.state block.old.space → IsOk result }
 {
     let made = block.make(controllers, step)?;
     if made.acted.is_none() {
@@ -228,7 +228,7 @@ pub fn ready_at(
     ensures idle { acts (decision_of tables.now step (state_at caches value blocks.old.items number)) ≡ false →
         space_of (kept_at blocks.new.items number) ≡ space_of (kept_at blocks.old.items number) }
     ensures lines { (cache : ℕ) → has_line (space_of (kept_at blocks.new.items number)) cache ≡ has_line (space_of (kept_at blocks.old.items number)) cache }
-    ensures light { IsLight tables.now step (state_at caches value blocks.old.items number) → IsOk result }
+    ensures light { SendsAndWakesNothing tables.now step (state_at caches value blocks.old.items number) → IsOk result }
 {
     if let Some(outcome) = touch(alloc, blocks, caches, value, number, tables, step)? {
         return Ok(outcome);

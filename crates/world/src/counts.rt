@@ -2,7 +2,7 @@ ghost use Rattle.std.specs.Prelude.{◌≡◌, ◌<◌, ◌≤◌, ◌^◌, IfNo
 ghost use Rattle.world.specs.inner.Counts.{all_in, row_of_kind, FallsAt};
 
 use base::NoMemory;
-use rows::{Found, Sums};
+use rows::{KthPlace, Sums};
 use std::alloc::Global;
 use std::marker::Model;
 
@@ -16,7 +16,7 @@ pub struct Counts {
 
 /// The kinds of delivery.
 #[derive(Clone, Copy)]
-pub enum Kind {
+pub enum DeliveryKind {
     /// A request, served by its block's home.
     Request,
     /// The first message of a link, served by the link's cache.
@@ -28,7 +28,7 @@ pub enum Kind {
 /// Where one of all the deliveries that are counted is.
 #[derive(Clone, Copy)]
 pub struct Spot {
-    pub kind: Kind,
+    pub kind: DeliveryKind,
     /// The number of its block.
     pub block: u32,
     /// How many of this kind the block has before it.
@@ -103,13 +103,13 @@ impl Counts {
     }
 
     /// How many of a kind a block has. Where the block isn't there it is 0.
-    pub fn of_block(&self, kind: Kind, number: u32) -> u32
+    pub fn of_block(&self, kind: DeliveryKind, number: u32) -> u32
         ensures { result ≡ slice_index_or (row_of_kind self.now kind) number 0 }
     {
         let row = match kind {
-            Kind::Request => &self.requests,
-            Kind::Head => &self.heads,
-            Kind::Response => &self.responses,
+            DeliveryKind::Request => &self.requests,
+            DeliveryKind::Head => &self.heads,
+            DeliveryKind::Response => &self.responses,
         };
         let at = number as usize;
         if at >= row.len() {
@@ -136,23 +136,23 @@ impl Counts {
         let mut left = k;
         let requests = self.requests.total();
         if left < requests {
-            return Some(spot_of(Kind::Request, self.requests.find(left)));
+            return Some(spot_of(DeliveryKind::Request, self.requests.find(left)));
         }
         left -= requests;
         let heads = self.heads.total();
         if left < heads {
-            return Some(spot_of(Kind::Head, self.heads.find(left)));
+            return Some(spot_of(DeliveryKind::Head, self.heads.find(left)));
         }
         left -= heads;
         if left < self.responses.total() {
-            return Some(spot_of(Kind::Response, self.responses.find(left)));
+            return Some(spot_of(DeliveryKind::Response, self.responses.find(left)));
         }
         None
     }
 }
 
 /// What was found in the row of a kind.
-fn spot_of(kind: Kind, found: Found) -> Spot
+fn spot_of(kind: DeliveryKind, found: KthPlace) -> Spot
     requires { found.place < 2 ^ 32 }
     ensures { result ≡ record { kind = kind; block = found.place; rest = found.rest } }
 {

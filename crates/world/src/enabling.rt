@@ -2,7 +2,7 @@ ghost use Rattle.std.specs.Prelude.{◌≡◌};
 ghost use Rattle.world.specs.inner.Counts.{step_in};
 ghost use Rattle.world.specs.inner.Holding.{kept_at};
 
-use crate::counts::{Kind, Spot};
+use crate::counts::{DeliveryKind, Spot};
 use crate::worlds::World;
 use base::{BlockId, NoMemory, Step};
 use blocks::Block;
@@ -54,7 +54,7 @@ impl World {
 
     /// How many deliveries of a kind a block has that wouldn't be held if the world weren't broken: fewer than 2^32. A block that
     /// isn't in the shape has none.
-    pub fn enabled_count_of(&self, kind: Kind, block: BlockId) -> u32
+    pub fn enabled_count_of(&self, kind: DeliveryKind, block: BlockId) -> u32
         ensures { result ≡ length (enabled_at_block self.now.tables kind self.now.state block) }
     {
         // A look at a field brings in what holds of every world.
@@ -64,7 +64,7 @@ impl World {
 
     /// The k-th of them, counted from 0, if there are so many: in the order in which [`enabled`](World::enabled) lists them in a world
     /// that isn't broken.
-    pub fn enabled_of(&self, kind: Kind, block: BlockId, k: u32) -> Option<Step>
+    pub fn enabled_of(&self, kind: DeliveryKind, block: BlockId, k: u32) -> Option<Step>
         ensures { result ≡ slice_get (enabled_at_block self.now.tables kind self.now.state block) k }
     {
         // A look at a field brings in what holds of every world.
@@ -86,15 +86,15 @@ fn delivery_at(blocks: &Sparse<Block>, spot: Spot) -> Option<Step>
     let kept = blocks.get(spot.block)?;
     let block = BlockId(spot.block);
     match spot.kind {
-        Kind::Request => {
+        DeliveryKind::Request => {
             let index = kept.free_request(spot.rest)?;
             Some(Step::Request { block, index })
         }
-        Kind::Head => {
+        DeliveryKind::Head => {
             let cache = kept.free_head(spot.rest)?;
             Some(Step::Forward { block, cache })
         }
-        Kind::Response => {
+        DeliveryKind::Response => {
             let index = kept.free_response(spot.rest)?;
             Some(Step::Response { block, index })
         }

@@ -1,4 +1,4 @@
-//! A world: the lines, homes and wires of all its blocks, which makes one step after another.
+//! A world of blocks, which makes one step after another, and the counts by which its deliveries are found.
 #![tactic(auto)]
 
 mod at_block;
@@ -9,6 +9,6 @@ mod resetting;
 mod runs;
 mod worlds;
 
-pub use counts::{Counts, Kind, Spot};
+pub use counts::{Counts, DeliveryKind, Spot};
 pub use runs::RunStop;
 pub use worlds::{OpenFault, World};

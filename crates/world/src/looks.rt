@@ -17,7 +17,7 @@ use rows::Sparse;
 
 /// A block: what is kept of it, or its opening value where nothing is.
 #[derive(Clone, Copy)]
-enum Found<'a> {
+enum FoundBlock<'a> {
     Kept(&'a Block),
     Opened(u64),
 }
@@ -57,20 +57,20 @@ impl World {
         ensures { result ≡ line_at self.now.state cache.0 block.0 }
     {
         match self.find(block.0)? {
-            Found::Kept(block) => block.line(cache),
-            Found::Opened(_) => opened_line(cache, self.shape.caches()),
+            FoundBlock::Kept(block) => block.line(cache),
+            FoundBlock::Opened(_) => opened_line(cache, self.shape.caches()),
         }
     }
 
     /// A block, if it is in the shape.
-    fn find(&self, number: u32) -> Option<Found<'_>>
+    fn find(&self, number: u32) -> Option<FoundBlock<'_>>
         ensures state { option_map (state_found self.now.shape.caches) result ≡ slice_get self.now.state.blocks number }
         ensures there { IsSome result ↔ (number < self.now.shape.blocks) }
     {
         let value = opening_value(self.opening.as_slice(), number)?;
         match self.blocks.get(number) {
-            Some(block) => Some(Found::Kept(block)),
-            None => Some(Found::Opened(value)),
+            Some(block) => Some(FoundBlock::Kept(block)),
+            None => Some(FoundBlock::Opened(value)),
         }
     }
 
@@ -80,8 +80,8 @@ impl World {
         ensures there { IsSome result ↔ (block.0 < self.now.shape.blocks) }
     {
         match self.find(block.0)? {
-            Found::Kept(block) => Some(block.home()),
-            Found::Opened(value) => Some((DirectoryState::I, None, value)),
+            FoundBlock::Kept(block) => Some(block.home()),
+            FoundBlock::Opened(value) => Some((DirectoryState::I, None, value)),
         }
     }
 
@@ -90,8 +90,8 @@ impl World {
         ensures { result ≡ shares_at self.now.state cache.0 block.0 }
     {
         match self.find(block.0) {
-            Some(Found::Kept(block)) => block.shares(cache),
-            Some(Found::Opened(_)) | None => false,
+            Some(FoundBlock::Kept(block)) => block.shares(cache),
+            Some(FoundBlock::Opened(_)) | None => false,
         }
     }
 
@@ -113,8 +113,8 @@ impl World {
         ensures there { IsSome result ↔ (block.0 < self.now.shape.blocks) }
     {
         match self.find(block.0)? {
-            Found::Kept(block) => Some(block.latest()),
-            Found::Opened(value) => Some(value),
+            FoundBlock::Kept(block) => Some(block.latest()),
+            FoundBlock::Opened(value) => Some(value),
         }
     }
 
@@ -123,8 +123,8 @@ impl World {
         ensures { result ≡ readers_of self.now.state block.0 }
     {
         match self.find(block.0) {
-            Some(Found::Kept(block)) => block.readers(),
-            Some(Found::Opened(_)) | None => 0,
+            Some(FoundBlock::Kept(block)) => block.readers(),
+            Some(FoundBlock::Opened(_)) | None => 0,
         }
     }
 
@@ -133,8 +133,8 @@ impl World {
         ensures { result ≡ writer_of self.now.state block.0 }
     {
         match self.find(block.0)? {
-            Found::Kept(block) => block.writer(),
-            Found::Opened(_) => None,
+            FoundBlock::Kept(block) => block.writer(),
+            FoundBlock::Opened(_) => None,
         }
     }
 
@@ -146,8 +146,8 @@ impl World {
         ensures none { IfNone result ((readers_of self.now.state block.0 ≤ 1) ⊎ (None ≡ writer_of self.now.state block.0)) }
     {
         match self.find(block.0) {
-            Some(Found::Kept(block)) => block.crowded_writer(),
-            Some(Found::Opened(_)) | None => None,
+            Some(FoundBlock::Kept(block)) => block.crowded_writer(),
+            Some(FoundBlock::Opened(_)) | None => None,
         }
     }
 
@@ -194,8 +194,8 @@ impl World {
         ensures { result ≡ is_held_found self.now.tables step (slice_get self.now.state.blocks (block_of step)) }
     {
         match self.find(step.block().0) {
-            Some(Found::Kept(block)) => block.is_held(self.controllers.tables(), step),
-            Some(Found::Opened(_)) => is_held_opened(
+            Some(FoundBlock::Kept(block)) => block.is_held(self.controllers.tables(), step),
+            Some(FoundBlock::Opened(_)) => is_held_opened(
                 self.controllers.tables(),
                 self.shape.caches(),
                 step,
@@ -220,8 +220,8 @@ impl World {
             return self.place_asked(cache, block);
         }
         match self.find(step.block().0)? {
-            Found::Kept(block) => block.place(step),
-            Found::Opened(_) => place_opened(self.shape.caches(), step),
+            FoundBlock::Kept(block) => block.place(step),
+            FoundBlock::Opened(_) => place_opened(self.shape.caches(), step),
         }
     }
 
@@ -244,8 +244,8 @@ impl World {
         ensures { result ≡ message_at self.now.state step }
     {
         match self.find(step.block().0)? {
-            Found::Kept(block) => block.message(step),
-            Found::Opened(_) => None,
+            FoundBlock::Kept(block) => block.message(step),
+            FoundBlock::Opened(_) => None,
         }
     }
 
@@ -254,8 +254,8 @@ impl World {
         ensures { result ≡ forward_at self.now.state block.0 cache.0 index }
     {
         match self.find(block.0)? {
-            Found::Kept(block) => block.forward(cache, index),
-            Found::Opened(_) => None,
+            FoundBlock::Kept(block) => block.forward(cache, index),
+            FoundBlock::Opened(_) => None,
         }
     }
 }

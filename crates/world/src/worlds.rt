@@ -8,11 +8,11 @@ use crate::at_block::{ready_at, step_at};
 use crate::counts::Counts;
 use base::{NoMemory, Outcome, Shape, Step};
 use blocks::{Block, Controllers, Tested};
-use both_tables::Tables;
 use machine::Made;
 use rows::{Sparse, TryClone};
 use std::alloc::Global;
 use std::marker::Model;
+use tables::Tables;
 use thiserror::Error;
 
 /// Why a world wasn't opened. The faults are tested in this order.

@@ -1,10 +1,9 @@
-pub use Rattle.words.specs.Words.{words_behind, IsNoNumberFirst}
 use Rattle.std.specs.Prelude.{◌≢◌, ℕ, ◌≤◌, List, ◌∷◌, ◌++◌, codes, length, map}
 use Rattle.base.specs.Spelling.{ask_words, step_words, FitsAsk, FitsStep}
 use Rattle.base.specs.declared.step.Ask.{Ask}
 use Rattle.base.specs.declared.step.Step.{Step}
-use Rattle.base.specs.declared.text.steps.Kind.{Kind}
-use Rattle.base.specs.declared.text.steps.Kind.TheVariants.{Request, Forward, Response}
+use Rattle.base.specs.declared.text.steps.MessageKind.{MessageKind}
+use Rattle.base.specs.declared.text.steps.MessageKind.TheVariants.{Request, Forward, Response}
 
 -- these words name no actions, at most eight
 abbrev pub IsNoActions : {A : Type 0} → (A → List ℕ) → List (List ℕ) → Type 0
@@ -19,11 +18,11 @@ abbrev pub IsNoAskFirst : List (List ℕ) → Type 0
 IsNoAskFirst line = (ask : Ask) (others : List (List ℕ)) → FitsAsk ask → line ≢ ask_words ask ++ others
 
 -- the word for a kind of messages
-abbrev pub kind_word : Kind → List ℕ
+abbrev pub kind_word : MessageKind → List ℕ
 kind_word Request = codes "request"
 kind_word Forward = codes "forward"
 kind_word Response = codes "response"
 
 -- the first of these words, with another behind it, is for no kind of messages
 abbrev pub IsNoKindFirst : List (List ℕ) → Type 0
-IsNoKindFirst line = (kind : Kind) (first : List ℕ) (others : List (List ℕ)) → line ≢ kind_word kind ∷ first ∷ others
+IsNoKindFirst line = (kind : MessageKind) (first : List ℕ) (others : List (List ℕ)) → line ≢ kind_word kind ∷ first ∷ others

@@ -6,7 +6,7 @@ use std::alloc::AllocError;
 
 /// One cell of a controller's table: what it does in a state on an event.
 #[derive(Copy, PartialEq, Eq, Debug)]
-pub enum Entry<S: Listed, A: Listed> {
+pub enum CellEntry<S: Listed, A: Listed> {
     /// There is no rule: the protocol takes it that the event can't come in this state.
     Blank,
     /// The event waits, and nothing changes.
@@ -20,13 +20,13 @@ pub enum Entry<S: Listed, A: Listed> {
     },
 }
 
-impl<S: Listed, A: Listed> Clone for Entry<S, A> {
-    fn clone(&self) -> Result<Entry<S, A>, AllocError> {
+impl<S: Listed, A: Listed> Clone for CellEntry<S, A> {
+    fn clone(&self) -> Result<CellEntry<S, A>, AllocError> {
         Ok(*self)
     }
 }
 
-impl<S: Listed, A: Listed> Entry<S, A> {
+impl<S: Listed, A: Listed> CellEntry<S, A> {
     ghost use Rattle.std.specs.Prelude.{◌≡◌, ◌↔◌, [], ◌∷◌, IsTrue};
     ghost use Rattle.base.specs.Entries.{actions_of, same_entry, HasFewActions};
 
@@ -36,23 +36,23 @@ impl<S: Listed, A: Listed> Entry<S, A> {
         ensures room { HasFewActions self.now }
     {
         match self {
-            Entry::Act { actions, .. } => actions.as_slice(),
+            CellEntry::Act { actions, .. } => actions.as_slice(),
             _ => &[],
         }
     }
 
     /// Whether the other entry is the same.
-    pub fn is_same(&self, other: &Entry<S, A>) -> bool
+    pub fn is_same(&self, other: &CellEntry<S, A>) -> bool
         ensures same { result ≡ same_entry S.place A.place self.now other.now }
         ensures equal { IsTrue result ↔ (self.now ≡ other.now) }
         ensures room { HasFewActions self.now }
     {
         let actions_are = are_same(self.actions(), other.actions());
         match (self, other) {
-            (Entry::Blank, Entry::Blank) | (Entry::Stall, Entry::Stall) => true,
+            (CellEntry::Blank, CellEntry::Blank) | (CellEntry::Stall, CellEntry::Stall) => true,
             (
-                Entry::Act { next, .. },
-                Entry::Act {
+                CellEntry::Act { next, .. },
+                CellEntry::Act {
                     next: other_next,
                     ..
                 },
@@ -62,50 +62,50 @@ impl<S: Listed, A: Listed> Entry<S, A> {
     }
 
     /// To the next state with no action.
-    pub fn quiet(next: S) -> Entry<S, A>
-        ensures { result ≡ Entry.Act next [] }
+    pub fn quiet(next: S) -> CellEntry<S, A>
+        ensures { result ≡ CellEntry.Act next [] }
     {
-        Entry::Act {
+        CellEntry::Act {
             next,
             actions: Actions::none(),
         }
     }
 
     /// One action, and then to the next state.
-    pub fn one(action: A, next: S) -> Entry<S, A>
-        ensures { result ≡ Entry.Act next (action ∷ []) }
+    pub fn one(action: A, next: S) -> CellEntry<S, A>
+        ensures { result ≡ CellEntry.Act next (action ∷ []) }
     {
-        Entry::Act {
+        CellEntry::Act {
             next,
             actions: Actions::none().with(action),
         }
     }
 
     /// Two actions, and then to the next state.
-    pub fn two(first: A, second: A, next: S) -> Entry<S, A>
-        ensures { result ≡ Entry.Act next (first ∷ second ∷ []) }
+    pub fn two(first: A, second: A, next: S) -> CellEntry<S, A>
+        ensures { result ≡ CellEntry.Act next (first ∷ second ∷ []) }
     {
-        Entry::Act {
+        CellEntry::Act {
             next,
             actions: Actions::none().with(first).with(second),
         }
     }
 
     /// Three actions, and then to the next state.
-    pub fn three(first: A, second: A, third: A, next: S) -> Entry<S, A>
-        ensures { result ≡ Entry.Act next (first ∷ second ∷ third ∷ []) }
+    pub fn three(first: A, second: A, third: A, next: S) -> CellEntry<S, A>
+        ensures { result ≡ CellEntry.Act next (first ∷ second ∷ third ∷ []) }
     {
-        Entry::Act {
+        CellEntry::Act {
             next,
             actions: Actions::none().with(first).with(second).with(third),
         }
     }
 
     /// Four actions, and then to the next state.
-    pub fn four(first: A, second: A, third: A, fourth: A, next: S) -> Entry<S, A>
-        ensures { result ≡ Entry.Act next (first ∷ second ∷ third ∷ fourth ∷ []) }
+    pub fn four(first: A, second: A, third: A, fourth: A, next: S) -> CellEntry<S, A>
+        ensures { result ≡ CellEntry.Act next (first ∷ second ∷ third ∷ fourth ∷ []) }
     {
-        Entry::Act {
+        CellEntry::Act {
             next,
             actions: Actions::none()
                 .with(first)
@@ -133,7 +133,7 @@ pub struct Change<S: Listed, E: Listed, A: Listed> {
     /// The event of the cell.
     pub event: E,
     /// What the cell is to hold.
-    pub entry: Entry<S, A>,
+    pub entry: CellEntry<S, A>,
 }
 
 impl<S: Listed, E: Listed, A: Listed> Clone for Change<S, E, A> {

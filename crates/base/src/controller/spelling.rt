@@ -2,15 +2,15 @@
 
 ghost use Rattle.std.specs.Prelude.{◌≡◌, ◌≢◌, ◌≤◌, ◌+◌, ◌*◌, ◌++◌, ◌∷◌, [], List, IfSome, MatchOption, codes, map, length};
 ghost use Rattle.base.specs.Entries.{change_words, entry_words, HasFewActions, IsNoChange, IsNoEntry, SpellsOneChange};
-ghost use Rattle.base.specs.Spelling.{joined, spaced, words};
-ghost use Rattle.base.specs.inner.Behind.{words_behind, IsNoActions};
+ghost use Rattle.base.specs.Words.{joined, spaced, words, words_behind};
+ghost use Rattle.base.specs.inner.Behind.{IsNoActions};
 
 use crate::controller::actions::{Actions, MOST_ACTIONS};
-use crate::controller::entry::{Change, Entry, Side};
+use crate::controller::entry::{CellEntry, Change, Side};
 use crate::controller::listed::{Listed, named};
 use crate::text::{Text, cut};
+use crate::words::behind_word;
 use std::fmt;
-use words::behind_word;
 
 impl Side {
     ghost use Rattle.base.specs.Entries.{side_word};
@@ -75,16 +75,16 @@ impl<S: Listed, E: Listed, A: Listed> Change<S, E, A> {
 }
 
 /// Adds an entry, with a blank before each word.
-fn push_entry<S: Listed, A: Listed>(text: &mut Text, entry: Entry<S, A>)
+fn push_entry<S: Listed, A: Listed>(text: &mut Text, entry: CellEntry<S, A>)
     requires { length text.old ≤ 42 }
     ensures text { text.new ≡ text.old ++ spaced (entry_words S.spelling A.spelling entry) }
     ensures short { length text.new ≤ 180 }
     ensures fits { HasFewActions entry }
 {
     match entry {
-        Entry::Blank => text.push_word(b"blank"),
-        Entry::Stall => text.push_word(b"stall"),
-        Entry::Act { next, actions } => {
+        CellEntry::Blank => text.push_word(b"blank"),
+        CellEntry::Stall => text.push_word(b"stall"),
+        CellEntry::Act { next, actions } => {
             text.push_word(b"act");
             text.push_word(next.name().as_bytes());
             push_actions(text, actions.as_slice());
@@ -104,8 +104,8 @@ fn push_actions<A: Listed>(text: &mut Text, actions: &[A])
 }
 
 /// The entry that these words spell.
-#[tactic(auto, using(words::proofs::Lines::not_one))]
-fn entry_of<S: Listed, A: Listed>(line: &[u8]) -> Option<Entry<S, A>>
+#[tactic(auto, using(crate::proofs::Lines::not_one))]
+fn entry_of<S: Listed, A: Listed>(line: &[u8]) -> Option<CellEntry<S, A>>
     ensures fits { IfSome result HasFewActions }
     ensures entry { MatchOption result (IsNoEntry {S = S} {A = A} S.spelling A.spelling (words line.now))
         (λ entry. words line.now ≡ entry_words S.spelling A.spelling entry) }
@@ -119,21 +119,21 @@ fn entry_of<S: Listed, A: Listed>(line: &[u8]) -> Option<Entry<S, A>>
     }
     let (next, rest) = cut(rest);
     match (named::<S>(next), actions_of::<A>(rest)) {
-        (Some(next), Some(actions)) => Some(Entry::Act { next, actions }),
+        (Some(next), Some(actions)) => Some(CellEntry::Act { next, actions }),
         _ => None,
     }
 }
 
 /// The entry that this one word spells.
-fn bare_entry<S: Listed, A: Listed>(word: &[u8]) -> Option<Entry<S, A>>
+fn bare_entry<S: Listed, A: Listed>(word: &[u8]) -> Option<CellEntry<S, A>>
     ensures fits { IfSome result HasFewActions }
     ensures entry { MatchOption result (IsNoEntry {S = S} {A = A} S.spelling A.spelling (word.now ∷ []))
         (λ entry. word.now ∷ [] ≡ entry_words S.spelling A.spelling entry) }
 {
     if word == b"blank".as_slice() {
-        Some(Entry::Blank)
+        Some(CellEntry::Blank)
     } else if word == b"stall".as_slice() {
-        Some(Entry::Stall)
+        Some(CellEntry::Stall)
     } else {
         None
     }

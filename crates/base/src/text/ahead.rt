@@ -4,13 +4,14 @@
 
 ghost use Rattle.std.specs.Prelude.{◌≡◌, ◌∷◌, ◌++◌, IfSome, codes};
 ghost use Rattle.std.specs.Fmt.{decimal};
-ghost use Rattle.base.specs.Spelling.{joined, ask_words, outcome_words, step_words};
+ghost use Rattle.base.specs.Words.{joined};
+ghost use Rattle.base.specs.Spelling.{ask_words, outcome_words, step_words};
 ghost use Rattle.base.specs.inner.Behind.{kind_word};
 
 use crate::ids::{BlockId, CacheId};
 use crate::step::{Ask, Outcome, Step};
-use crate::text::steps::Kind;
-use words::{begins_with, digit_of, digits_in_front, has_first_digit};
+use crate::text::steps::MessageKind;
+use crate::words::{begins_with, digit_of, digits_in_front, has_first_digit};
 
 impl Step {
     /// A step that bytes begin with, with the byte `END` behind it, and what follows that.
@@ -63,40 +64,40 @@ fn asked_ahead<const END: u8>(bytes: &[u8]) -> Option<(Ask, &[u8])>
 
 /// The kind of messages whose word, with a blank behind it, bytes begin with.
 #[inline(always)]
-fn kind_ahead(bytes: &[u8]) -> Option<(Kind, &[u8])>
+fn kind_ahead(bytes: &[u8]) -> Option<(MessageKind, &[u8])>
     ensures { IfSome result (λ found. bytes.now ≡ kind_word found.0 ++ 32 ∷ found.1.now) }
 {
     if let Some(rest) = word_ahead(bytes, b"response", b' ') {
-        return Some((Kind::Response, rest));
+        return Some((MessageKind::Response, rest));
     }
     if let Some(rest) = behind(bytes, b"request ") {
-        return Some((Kind::Request, rest));
+        return Some((MessageKind::Request, rest));
     }
     let rest = behind(bytes, b"forward ")?;
-    Some((Kind::Forward, rest))
+    Some((MessageKind::Forward, rest))
 }
 
 /// A step behind the word for a kind of messages that bytes begin with.
 #[inline(always)]
-fn served_ahead<const END: u8>(kind: Kind, bytes: &[u8]) -> Option<(Step, &[u8])>
+fn served_ahead<const END: u8>(kind: MessageKind, bytes: &[u8]) -> Option<(Step, &[u8])>
     ensures { IfSome result (λ found. kind_word kind ++ 32 ∷ bytes.now ≡ joined (step_words found.0) ++ END ∷ found.1.now) }
 {
     let (block, rest) = small_ahead(bytes, b' ')?;
     let (number, rest) = number_ahead(rest, END)?;
     let block = BlockId(block);
     let step = match kind {
-        Kind::Request => Step::Request {
+        MessageKind::Request => Step::Request {
             block,
             index: number,
         },
-        Kind::Forward => {
+        MessageKind::Forward => {
             let Ok(cache) = u32::try_from(number) else {
                 return None;
             };
             let cache = CacheId(cache);
             Step::Forward { block, cache }
         }
-        Kind::Response => Step::Response {
+        MessageKind::Response => Step::Response {
             block,
             index: number,
         },

@@ -1,11 +1,12 @@
 ghost use Rattle.std.specs.Prelude.{◌≡◌, ◌≤◌, ◌+◌, ◌++◌, MatchOption, length};
-ghost use Rattle.base.specs.Spelling.{joined, outcome_words, FitsOutcome, IsNoOutcome, IsOutcomeLine, IsNoOutcomeWord, IsOutcomeWord};
+ghost use Rattle.base.specs.Words.{joined};
+ghost use Rattle.base.specs.Spelling.{outcome_words, FitsOutcome, IsNoOutcome, IsOutcomeLine, IsNoOutcomeWord, IsOutcomeWord};
 
 use crate::ids::CacheId;
 use crate::step::Outcome;
 use crate::text::short::Text;
+use crate::words::{behind_word, small_and_number};
 use std::fmt;
-use words::{behind_word, small_and_number};
 
 impl Outcome {
     /// The outcome that a line is the text of: words with exactly one blank between two and none at the ends.

@@ -1,13 +1,13 @@
 ghost use Rattle.std.specs.Prelude.{◌≡◌, ◌≤◌, ◌+◌, ◌∷◌, ◌++◌, MatchOption, codes, length};
-ghost use Rattle.base.specs.Spelling.{words, joined, spaced, ask_words, step_words, FitsAsk, FitsStep};
-ghost use Rattle.base.specs.Spelling.{HasNoStepInFront, IsNoStep, IsStepLine, SpellsOneStep};
-ghost use Rattle.base.specs.inner.Behind.{kind_word, words_behind, IsNoAskFirst, IsNoKindFirst, IsNoStepFirst};
+ghost use Rattle.base.specs.Words.{words, joined, spaced, words_behind};
+ghost use Rattle.base.specs.Spelling.{ask_words, step_words, FitsAsk, FitsStep, HasNoStepInFront, IsNoStep, IsStepLine, SpellsOneStep};
+ghost use Rattle.base.specs.inner.Behind.{kind_word, IsNoAskFirst, IsNoKindFirst, IsNoStepFirst};
 
 use crate::ids::{BlockId, CacheId};
 use crate::step::{Ask, Step};
 use crate::text::short::Text;
+use crate::words::{after_word, behind_word, number_in_front, small_in_front};
 use std::fmt;
-use words::{after_word, behind_word, number_in_front, small_in_front};
 
 impl Step {
     /// The step that a line is the text of: words with exactly one blank between two and none at the ends.
@@ -86,7 +86,7 @@ fn what_is_asked(line: &[u8]) -> Option<(Ask, Option<&[u8]>)>
 
 /// The kinds of messages of which a step serves one.
 #[derive(Clone, Copy)]
-pub(crate) enum Kind {
+pub(crate) enum MessageKind {
     Request,
     Forward,
     Response,
@@ -94,22 +94,22 @@ pub(crate) enum Kind {
 
 /// The kind of messages whose word a line begins with, and what follows the word's blank.
 #[inline(always)]
-fn kind_in_front(line: &[u8]) -> Option<(Kind, &[u8])>
+fn kind_in_front(line: &[u8]) -> Option<(MessageKind, &[u8])>
     ensures { MatchOption result (IsNoKindFirst (words line.now)) (λ found. words line.now ≡ kind_word found.0 ∷ words found.1.now) }
 {
     if let Some(rest) = behind_word(line, b"request") {
-        return Some((Kind::Request, rest));
+        return Some((MessageKind::Request, rest));
     }
     if let Some(rest) = behind_word(line, b"forward") {
-        return Some((Kind::Forward, rest));
+        return Some((MessageKind::Forward, rest));
     }
     let rest = behind_word(line, b"response")?;
-    Some((Kind::Response, rest))
+    Some((MessageKind::Response, rest))
 }
 
 /// The step that a line spells behind the word for a kind of messages, and what follows it: two numbers for each kind.
 #[inline(always)]
-fn served_in_front(kind: Kind, line: &[u8]) -> Option<(Step, Option<&[u8]>)>
+fn served_in_front(kind: MessageKind, line: &[u8]) -> Option<(Step, Option<&[u8]>)>
     ensures { MatchOption result
         (IsNoStepFirst (kind_word kind ∷ words line.now))
         (λ found. kind_word kind ∷ words line.now ≡ step_words found.0 ++ words_behind found.1) }
@@ -118,18 +118,18 @@ fn served_in_front(kind: Kind, line: &[u8]) -> Option<(Step, Option<&[u8]>)>
     let (number, rest) = number_in_front(rest?)?;
     let block = BlockId(block);
     let step = match kind {
-        Kind::Request => Step::Request {
+        MessageKind::Request => Step::Request {
             block,
             index: number,
         },
-        Kind::Forward => {
+        MessageKind::Forward => {
             let Ok(cache) = u32::try_from(number) else {
                 return None;
             };
             let cache = CacheId(cache);
             Step::Forward { block, cache }
         }
-        Kind::Response => Step::Response {
+        MessageKind::Response => Step::Response {
             block,
             index: number,
         },

@@ -1,6 +1,6 @@
 -- A block as the program holds it.
 use Rattle.std.specs.Prelude.{◌≡◌, List, Option, Bool, is_some, length, map}
-use Rattle.cache_line.specs.declared.line.Line.{Line}
+use Rattle.control.specs.declared.line.Line.{Line}
 use Rattle.control.specs.LineEffect.{is_reader, is_writer}
 use Rattle.machine.specs.Block.{BlockState, IsBlockAmong}
 use Rattle.blocks.specs.View.{line_or}

@@ -6,8 +6,8 @@ use Rattle.machine.specs.declared.decision.Origin.{Origin}
 use Rattle.machine.specs.declared.decision.Origin.TheVariants as origin
 use Rattle.machine.specs.declared.decision.Decision.{Decision}
 use Rattle.machine.specs.declared.decision.Decision.TheVariants.{Refused, AtLine, AtHome}
-use Rattle.cache_line.specs.declared.line.Line.{Line}
-use Rattle.both_tables.specs.Tables.{Tables}
+use Rattle.control.specs.declared.line.Line.{Line}
+use Rattle.tables.specs.Tables.{Tables}
 use Rattle.blocks.specs.Marking.{link_stalls, links_stall}
 
 -- an input at the line of a cache comes from no other cache's link, and is no request

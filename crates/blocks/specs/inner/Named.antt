@@ -7,7 +7,7 @@ use Rattle.network.specs.declared.message.Forward.{Forward}
 use Rattle.network.specs.declared.message.Response.{Response}
 use Rattle.network.specs.declared.message.Response.TheVariants.{Data, InvAck, DataExcl}
 use Rattle.network.specs.Traffic.{Traffic, link}
-use Rattle.block_home.specs.declared.home.Home.{Home}
+use Rattle.control.specs.declared.home.Home.{Home}
 use Rattle.control.specs.HomeEffect.{sender_of}
 use Rattle.control.specs.LineEffect.{requestor_of}
 use Rattle.control.specs.Sharing.{shares}

@@ -1,6 +1,6 @@
 -- That a decision is about the line that the block has.
 use Rattle.std.specs.Prelude.{◌≡◌, List, Some, slice_get}
-use Rattle.cache_line.specs.declared.line.Line.{Line}
+use Rattle.control.specs.declared.line.Line.{Line}
 use Rattle.machine.specs.declared.decision.Decision.{Decision}
 use Rattle.machine.specs.declared.decision.Decision.TheVariants.{Refused, AtLine, AtHome}
 

@@ -3,9 +3,9 @@ use Rattle.std.specs.Prelude.{List, Bool, Option, map}
 use Rattle.network.specs.declared.message.Request.{Request}
 use Rattle.network.specs.Traffic.{Traffic}
 use Rattle.directory_table.specs.Table as directory_table
-use Rattle.cache_line.specs.declared.line.Line.{Line}
-use Rattle.block_home.specs.declared.home.Home.{Home}
-use Rattle.block_home.specs.declared.home.HomeInput.TheVariants as home_input
+use Rattle.control.specs.declared.line.Line.{Line}
+use Rattle.control.specs.declared.home.Home.{Home}
+use Rattle.control.specs.declared.home.HomeInput.TheVariants as home_input
 use Rattle.machine.specs.Block.{BlockState}
 use Rattle.blocks.specs.Marking.{home_stalls}
 use Rattle.blocks.specs.inner.Lined.{lines_of}

@@ -1,7 +1,7 @@
 -- What controllers tell of their tables.
 use Rattle.std.specs.Prelude.{◌≡◌, List, Bool, Some, slice_get, slice_index_or, true, false}
 use Rattle.base.specs.declared.step.Ask.{Ask}
-use Rattle.both_tables.specs.Tables.{Tables}
+use Rattle.tables.specs.Tables.{Tables}
 use Rattle.cache_table.specs.Table as cache_table
 use Rattle.cache_table.specs.declared.state.CacheState.{CacheState}
 use Rattle.directory_table.specs.Table as directory_table

@@ -14,7 +14,6 @@ use crate::block::serving::{HeadAt, RequestAt, ResponseAt, Served};
 use crate::block::{Block, foreseen};
 use crate::controllers::Controllers;
 use base::{CacheId, CoreAsk, NoMemory, Outcome, Step};
-use both_tables::Tables;
 use cache_table::{CacheActions, CacheState};
 use control::{
     Line, LineCompletion, LineInput, home_perform, home_reserve, line_perform, line_reserve,
@@ -23,6 +22,7 @@ use control::{
 use machine::{Acted, Actor, Decision, Made, Origin};
 use network::Wires;
 use rows::Sparse;
+use tables::Tables;
 
 impl Block {
     ghost use Rattle.std.specs.Prelude.{◌≡◌, [], IfOk, IsOk, OnOk, OnErr, false, length, take};
@@ -33,7 +33,7 @@ impl Block {
     ghost use Rattle.blocks.specs.Marking.{marks_of};
     ghost use Rattle.blocks.specs.inner.Named.{DecisionNames};
     ghost use Rattle.blocks.specs.inner.OwnLine.{IsAboutLine};
-    ghost use Rattle.blocks.specs.Steps.{Foresees, IsAsBefore, Makes, Stays, WantsNone};
+    ghost use Rattle.blocks.specs.Steps.{Foresees, IsBlockAsBefore, MakesStep, Stays, BlockNeedsNoMemory};
 
     /// Makes the room that a decision wants. Where it is refused nothing has changed.
     #[inline(always)]
@@ -77,8 +77,8 @@ impl Block {
     /// Makes the room that a step wants, and answers the outcome that it will have.
     pub fn ready(&mut self, tables: &Tables, step: Step) -> Result<Outcome, NoMemory>
         ensures ok { IfOk result (λ what. Foresees tables.now self.old step what self.new) }
-        ensures kept { IsAsBefore (decision_of tables.now step self.old.state) self.old self.new }
-        ensures succeeds { WantsNone (decision_of tables.now step self.old.state) self.old.state self.old.space → IsOk result }
+        ensures kept { IsBlockAsBefore (decision_of tables.now step self.old.state) self.old self.new }
+        ensures succeeds { BlockNeedsNoMemory (decision_of tables.now step self.old.state) self.old.state self.old.space → IsOk result }
     {
         let decision = self.decide(tables, &step);
         self.prepare(&decision)?;
@@ -142,9 +142,9 @@ impl Block {
     #[inline(always)]
     pub fn make(&mut self, controllers: &Controllers, step: &Step) -> Result<Made, NoMemory>
         requires { self.old.marks ≡ marks_of controllers.now self.old.state }
-        ensures ok { IfOk result (λ made. Makes controllers.now self.old step.now made self.new) }
+        ensures ok { IfOk result (λ made. MakesStep controllers.now self.old step.now made self.new) }
         ensures err { OnErr result (Stays controllers.now self.old self.new) }
-        ensures succeeds { WantsNone (decision_of controllers.now step.now self.old.state) self.old.state self.old.space → IsOk result }
+        ensures succeeds { BlockNeedsNoMemory (decision_of controllers.now step.now self.old.state) self.old.state self.old.space → IsOk result }
     {
         match *step {
             Step::Ask { cache, block, ask } => {
@@ -165,9 +165,9 @@ impl Block {
     #[inline(always)]
     fn serve<S: Served>(&mut self, controllers: &Controllers, served: &S) -> Result<Made, NoMemory>
         requires { self.old.marks ≡ marks_of controllers.now self.old.state }
-        ensures ok { IfOk result (λ made. Makes controllers.now self.old (S.step served.now) made self.new) }
+        ensures ok { IfOk result (λ made. MakesStep controllers.now self.old (S.step served.now) made self.new) }
         ensures err { OnErr result (Stays controllers.now self.old self.new) }
-        ensures succeeds { WantsNone (decision_of controllers.now (S.step served.now) self.old.state) self.old.state self.old.space → IsOk result }
+        ensures succeeds { BlockNeedsNoMemory (decision_of controllers.now (S.step served.now) self.old.state) self.old.state self.old.space → IsOk result }
     {
         let decision = self.decide(controllers.tables(), served);
         if let Decision::Refused(outcome) = decision {

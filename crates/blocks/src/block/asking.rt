@@ -7,8 +7,8 @@ ghost use Rattle.blocks.specs.Asking.{holds, stalls_in};
 use crate::block::deciding::is_idle_ask;
 use crate::block::passing::stalls_at_line;
 use base::Ask;
-use both_tables::Tables;
 use cache_table::{CacheEvent, CacheState};
+use tables::Tables;
 
 /// Which asks would be held, each kind by itself. Whether a store is doesn't depend on its value.
 #[derive(Clone, Copy, PartialEq, Eq)]

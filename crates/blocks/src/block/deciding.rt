@@ -6,12 +6,12 @@ ghost use Rattle.machine.specs.Transition.{at_line, at_ask, decision_of, is_idle
 use crate::block::Block;
 use crate::block::serving::Served;
 use base::{Ask, CacheId, Outcome, Place, Step};
-use both_tables::Tables;
 use cache_table::{CacheEntry, CacheState};
 use control::{HomeInput, Line, LineInput, home_event, line_event};
 use directory_table::DirectoryEntry;
 use machine::{Decision, Origin};
 use network::Response;
+use tables::Tables;
 
 /// The line of a cache that isn't kept, if the cache is one of so many.
 pub fn opened_line(cache: CacheId, caches: u32) -> Option<Line>

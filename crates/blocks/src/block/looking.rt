@@ -9,10 +9,10 @@ use crate::block::acting::completion_outcome;
 use crate::block::deciding::{is_idle_ask, opened_line};
 use crate::block::testing::stalls_line;
 use base::{Ask, CacheId, Outcome, Place, Step};
-use both_tables::Tables;
 use control::{Line, LineInput, line_completion};
 use machine::Decision;
 use network::{Forward, Message, Response};
+use tables::Tables;
 
 impl Block {
     ghost use Rattle.std.specs.Prelude.{◌≡◌, ◌<◌, ◌≤◌, ◌⊎◌, IfNone, IfSome, None, Some, count_by, slice_get};

@@ -6,9 +6,9 @@ ghost use Rattle.directory_table.specs.Table as directory_table;
 ghost use Rattle.blocks.specs.Marking.{is_stall};
 ghost use Rattle.blocks.specs.Passing.{ForwardsPass, IsClear, ResponsesPass, RowPasses};
 
-use both_tables::Tables;
 use cache_table::{CacheEntry, CacheEvent, CacheState};
 use directory_table::{DirectoryEntry, DirectoryEvent, DirectoryState};
+use tables::Tables;
 
 /// Whether the home's cell of a state and an event is a stall.
 fn stalls_at_home(tables: &Tables, state: DirectoryState, event: DirectoryEvent) -> bool

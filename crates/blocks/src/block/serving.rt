@@ -3,8 +3,8 @@
 use crate::block::Block;
 use crate::block::deciding::at_ask;
 use base::{BlockId, CacheId, CoreAsk, Step};
-use both_tables::Tables;
 use machine::Decision;
+use tables::Tables;
 
 /// What a step serves: an ask, or a message of one of the three kinds.
 pub(crate) trait Served {

@@ -3,7 +3,7 @@
 ghost use Rattle.std.specs.Prelude.{◌≡◌, true, length, slice_get};
 ghost use Rattle.network.specs.Marking.{link_marked};
 ghost use Rattle.network.specs.Traffic.{Traffic};
-ghost use Rattle.cache_line.specs.declared.line.LineInput.TheVariants as line_input;
+ghost use Rattle.control.specs.declared.line.LineInput.TheVariants as line_input;
 ghost use Rattle.blocks.specs.Marking.{home_stalls, line_stalls, response_stalls, links_stall, marks_of};
 ghost use Rattle.blocks.specs.inner.Asked.{AreFirstRight};
 ghost use Rattle.blocks.specs.inner.Lined.{lines_of};
@@ -13,13 +13,13 @@ ghost use Rattle.blocks.specs.inner.Tested.{block_with, requests_stall};
 use crate::block::{Block, opened_line};
 use crate::controllers::Controllers;
 use base::{CacheId, Place};
-use both_tables::Tables;
 use cache_table::CacheEntry;
 use control::{Home, HomeInput, Line, LineInput, home_event, line_event};
 use directory_table::DirectoryEntry;
 use machine::{Decision, Origin};
 use network::{Forward, Marker, Request, Response, Wires};
 use rows::Sparse;
+use tables::Tables;
 
 /// What a test of all messages of a block finds.
 #[derive(Clone, Copy)]
@@ -47,7 +47,7 @@ impl Block {
     ghost use Rattle.blocks.specs.inner.Linking.{AreRight, IsAtOwn};
     ghost use Rattle.blocks.specs.inner.Tested.{requests_stall};
     ghost use Rattle.blocks.specs.Marking.{marks_of};
-    ghost use Rattle.both_tables.specs.Tables.{Tables};
+    ghost use Rattle.tables.specs.Tables.{Tables};
     ghost use Rattle.blocks.specs.Tests.{IsFound};
 
     /// What a decision leaves as it is: it has a cell act at a line, on an input that is no request and is from no link but the
@@ -151,7 +151,7 @@ struct AtHome<'a> {
 
 impl Marker<Request> for AtHome<'_> {
     ghost use Rattle.blocks.specs.Marking.{home_stalls};
-    ghost use Rattle.block_home.specs.declared.home.HomeInput.TheVariants as home_input;
+    ghost use Rattle.control.specs.declared.home.HomeInput.TheVariants as home_input;
 
     ghost told = { λ at request. home_stalls at.tables.now.directory at.home.now (home_input.Request request) };
 
@@ -172,7 +172,7 @@ impl Marker<Forward> for OnLink<'_> {
     ghost use Rattle.std.specs.Prelude.{slice_get};
     ghost use Rattle.blocks.specs.Marking.{line_stalls};
     ghost use Rattle.blocks.specs.inner.Lined.{lines_of};
-    ghost use Rattle.cache_line.specs.declared.line.LineInput.TheVariants as line_input;
+    ghost use Rattle.control.specs.declared.line.LineInput.TheVariants as line_input;
 
     ghost told = { λ on forward. line_stalls on.tables.now.cache (slice_get (lines_of on.lines.now.items) on.cache.0) (line_input.Forward forward) };
 

@@ -1,6 +1,6 @@
 -- What is asked of each cell of tables.
-use Rattle.both_tables.specs.Tables.{Tables}
-use Rattle.both_tables.specs.declared.cell_places.CellPlace.{CellPlace}
+use Rattle.tables.specs.Tables.{Tables}
+use Rattle.tables.specs.declared.cell_places.CellPlace.{CellPlace}
 use Rattle.certify.specs.Certificates.{LetsFlow, ServesAt}
 use Rattle.certify.specs.Standings.{IsAdmitted}
 use Rattle.certify.specs.declared.certifying.Demand.{Demand}

@@ -1,7 +1,7 @@
 -- Ranked pairs in which blame works.
 use Rattle.std.specs.Prelude.{◌≡◌, ◌⊎◌, ℕ, List, Some, None, true, slice_get}
 use Rattle.network.specs.declared.message.ForwardKind.{ForwardKind}
-use Rattle.both_tables.specs.Tables.{Tables}
+use Rattle.tables.specs.Tables.{Tables}
 use Rattle.pairs.specs.declared.pair.Pair.{Pair}
 use Rattle.closing.specs.declared.ranked.RankedPair.{RankedPair}
 use Rattle.closing.specs.Blamed.{is_held, is_noisy, is_silent, awaits_home, IsBlamed}

@@ -12,7 +12,7 @@ abbrev pub second_view : Pair → View
 second_view p = record { shared = p.shared; side = p.second }
 
 -- this is the first of these views that is so
-pub record IsNumber (views : List View) (view : View) (number : ℕ) : Type 0 where
+pub record IsNumberOfView (views : List View) (view : View) (number : ℕ) : Type 0 where
   pub there : slice_get views number ≡ Some view
   pub first : (k : ℕ) → k < number → ¬ (slice_get views k ≡ Some view)
 
@@ -24,7 +24,7 @@ AreDistinct views = (n : ℕ) (v : View) → slice_get views n ≡ Some v → (k
 abbrev pub HaveNumbers : Bool → List RankedPair → List View → List ℕ → Type 0
 HaveNumbers second list views numbers =
     (k : ℕ) (r : RankedPair) → slice_get list k ≡ Some r →
-    (n : ℕ) × (slice_get numbers k ≡ Some n) × IsNumber views (if second then second_view r.pair else first_view r.pair) n
+    (n : ℕ) × (slice_get numbers k ≡ Some n) × IsNumberOfView views (if second then second_view r.pair else first_view r.pair) n
 
 -- each place is within the span of its number
 abbrev pub AreWithin : List ℕ → List Span → Type 0

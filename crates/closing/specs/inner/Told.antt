@@ -1,8 +1,8 @@
 -- Lists of what the steps of a ranked pair lead to.
 use Rattle.std.specs.Prelude.{◌≡◌, ◌≤◌, ◌<◌, ℕ, List, Bool, true, false, Some, Contains, IsTrue, slice_get}
 use Rattle.std.specs.Global.{Vec}
-use Rattle.both_tables.specs.Tables.{Tables}
-use Rattle.cache_line.specs.LineEffect.{is_reader, is_writer}
+use Rattle.tables.specs.Tables.{Tables}
+use Rattle.control.specs.LineEffect.{is_reader, is_writer}
 use Rattle.pairs.specs.declared.pair.Pair.{Pair}
 use Rattle.pairs.specs.declared.steps.Party.{Party}
 use Rattle.pairs.specs.declared.steps.Party.TheVariants.{Second, Third}
@@ -13,7 +13,7 @@ use Rattle.pairs.specs.Marking.{IsMarked}
 use Rattle.pairs.specs.Pairs.{fits, is_few}
 use Rattle.pairs.specs.Sights.{sight, home_data_seen}
 use Rattle.closing.specs.declared.following.Followed.{Followed}
-use Rattle.closing.specs.declared.numbering.Numbers.{Numbers}
+use Rattle.closing.specs.declared.numbering.ViewNumbers.{ViewNumbers}
 use Rattle.closing.specs.declared.numbering.Span.{Span}
 use Rattle.closing.specs.declared.ranked.RankedPair.{RankedPair}
 use Rattle.closing.specs.Closed.{AreAlike, are_apart, glued}
@@ -69,7 +69,7 @@ GluesWith list seconds steps p mine between place =
     GlueTogether list seconds between second q mine theirs.items
 
 -- the pair that stands here does with each that begins like it
-abbrev pub GluesAt : List RankedPair → Numbers → List (Vec Followed) → ℕ → Type 0
+abbrev pub GluesAt : List RankedPair → ViewNumbers → List (Vec Followed) → ℕ → Type 0
 GluesAt list numbers steps place =
     (p : RankedPair) (mine : Vec Followed) (n m : ℕ) (beside between : Span) → slice_get list place ≡ Some p → slice_get steps place ≡ Some mine →
     slice_get numbers.firsts.items place ≡ Some n → slice_get numbers.seconds.items place ≡ Some m → slice_get numbers.spans.items n ≡ Some beside →

@@ -10,8 +10,8 @@ use Rattle.cursors.specs.Cursors.{Progress, Parts, Nothing, Whole, InSeq, InTime
 use Rattle.cursors.specs.Cursors.{progress, progress_row, tree_left}
 use Rattle.cursors.specs.Stock.{Stock, Empty, With, Within, room, room_in_turn, wants}
 use Rattle.cursors.specs.declared.part.Part.{Part, Fresh, Begun'}
-use Rattle.cursors.specs.declared.part.Place.{Place}
-use Rattle.cursors.specs.declared.part.Place.TheVariants as place
+use Rattle.cursors.specs.declared.part.PartPlace.{PartPlace}
+use Rattle.cursors.specs.declared.part.PartPlace.TheVariants as place
 
 -- all parts of a part, also those that are kept for later
 abbrev pub parts_of : {A B : Type 0} → Part A B → List Progress
@@ -19,7 +19,7 @@ parts_of (Fresh at) = []
 parts_of (Begun' at shape row) = progress_row row
 
 -- where in its tree a part is
-abbrev pub place_of : {A B : Type 0} → Part A B → Place A
+abbrev pub place_of : {A B : Type 0} → Part A B → PartPlace A
 place_of (Fresh at) = at
 place_of (Begun' at shape row) = at
 
@@ -28,7 +28,7 @@ abbrev pub part_left : {A B : Type 0} → Part A B → Tree
 part_left p = tree_left (progress p)
 
 -- how many parts are in use at a place
-abbrev pub count_at : {A : Type 0} → Place A → ℕ
+abbrev pub count_at : {A : Type 0} → PartPlace A → ℕ
 count_at place.Nothing = 0
 count_at (place.Whole t) = 0
 count_at (place.InSeq ts) = 1
@@ -40,7 +40,7 @@ abbrev pub all_left : List Progress → Trees
 all_left ps = trees_of (map tree_left ps)
 
 -- what is left behind the parts in use
-abbrev pub behind : {A : Type 0} → Place A → Tree
+abbrev pub behind : {A : Type 0} → PartPlace A → Tree
 behind place.Nothing = tree.Seq tree.Nil
 behind (place.Whole t) = plain t.now
 behind (place.InSeq ts) = tree.Seq (plain_all ts.now)
@@ -86,7 +86,7 @@ abbrev pub MovesPart : List Progress → ℕ → ℕ → List Progress → Type 
 MovesPart old j k new = (p q : Progress) × (slice_get old j ≡ Some p) × (new ≡ slice_set old j q) × MovesTo (tree_left p) k (wants p) q
 
 -- the parts that are wanted for what is behind the parts in use
-abbrev pub wants_behind : {A : Type 0} → Place A → Stock
+abbrev pub wants_behind : {A : Type 0} → PartPlace A → Stock
 wants_behind place.Nothing = Empty
 wants_behind (place.Whole t) = room (plain t.now)
 wants_behind (place.InSeq ts) = room_in_turn (plain_all ts.now)

@@ -3,8 +3,8 @@ use Rattle.std.specs.Prelude.{Bool, true, false, ◌&&◌}
 use Rattle.scenario.specs.Tree.{Tree, Trees, plain}
 use Rattle.scenario.specs.Tree as tree
 use Rattle.cursors.specs.declared.part.Part.{Part, Fresh, Begun'}
-use Rattle.cursors.specs.declared.part.Place.{Place}
-use Rattle.cursors.specs.declared.part.Place.TheVariants as place
+use Rattle.cursors.specs.declared.part.PartPlace.{PartPlace}
+use Rattle.cursors.specs.declared.part.PartPlace.TheVariants as place
 
 -- a tree is one ask
 abbrev pub is_ask : Tree → Bool
@@ -28,7 +28,7 @@ is_choice (tree.Times n t) = false
 is_choice (tree.Both ts) = false
 
 -- a place is in turns of such a tree
-abbrev pub chooses_at : {A : Type 0} → Place A → Bool
+abbrev pub chooses_at : {A : Type 0} → PartPlace A → Bool
 chooses_at place.Nothing = false
 chooses_at (place.Whole t) = false
 chooses_at (place.InSeq ts) = false

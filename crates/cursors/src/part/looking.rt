@@ -6,7 +6,7 @@ ghost use Rattle.cursors.specs.inner.Parts.{all_left, behind, count_at, part_lef
 ghost use Rattle.scenario.specs.Seeking.{sought};
 ghost use Rattle.scenario.specs.Taking.{all_end, ends, offers, offers_of_all};
 
-use super::{Part, Place};
+use super::{Part, PartPlace};
 use base::{CoreAsk, NoMemory};
 use scenario::looking::{all_may_end, offers_in_turn, offers_of_tree, tree_may_end};
 use scenario::seeking::{HasOffers, seek_in_tree, seek_in_turn};
@@ -30,13 +30,13 @@ impl<'t, A: Allocator, B: Allocator> Part<'t, A, B> {
 }
 
 /// How many parts are in use at a place.
-fn parts_at<A: Allocator>(place: Place<'_, A>) -> usize
+fn parts_at<A: Allocator>(place: PartPlace<'_, A>) -> usize
     ensures { result ≡ count_at place.entry }
 {
     match place {
-        Place::Nothing | Place::Whole(_) => 0,
-        Place::InSeq(_) | Place::InTimes(..) => 1,
-        Place::InBoth(count) => count,
+        PartPlace::Nothing | PartPlace::Whole(_) => 0,
+        PartPlace::InSeq(_) | PartPlace::InTimes(..) => 1,
+        PartPlace::InBoth(count) => count,
     }
 }
 
@@ -60,14 +60,14 @@ fn parts_may_end<A: Allocator, B: Allocator>(parts: &[Part<'_, A, B>]) -> bool
     true
 }
 
-fn behind_may_end<A: Allocator>(place: Place<'_, A>) -> bool
+fn behind_may_end<A: Allocator>(place: PartPlace<'_, A>) -> bool
     ensures { result ≡ ends (behind place.entry) }
 {
     match place {
-        Place::Nothing | Place::InBoth(_) => true,
-        Place::Whole(tree) => tree_may_end(tree),
-        Place::InSeq(others) => all_may_end(others),
-        Place::InTimes(turns, child) => turns == 0 || tree_may_end(child),
+        PartPlace::Nothing | PartPlace::InBoth(_) => true,
+        PartPlace::Whole(tree) => tree_may_end(tree),
+        PartPlace::InSeq(others) => all_may_end(others),
+        PartPlace::InTimes(turns, child) => turns == 0 || tree_may_end(child),
     }
 }
 
@@ -121,14 +121,14 @@ fn seek_in_parts<A: Allocator, B: Allocator>(
     Err(further)
 }
 
-fn seek_behind<A: Allocator>(place: Place<'_, A>, at: usize) -> Result<CoreAsk, usize>
+fn seek_behind<A: Allocator>(place: PartPlace<'_, A>, at: usize) -> Result<CoreAsk, usize>
     ensures { result ≡ sought (offers (behind place.entry)) at }
 {
     match place {
-        Place::Nothing | Place::InBoth(_) => Err(at),
-        Place::Whole(tree) => seek_in_tree(tree, at),
-        Place::InSeq(others) => seek_in_turn(others, at),
-        Place::InTimes(turns, child) => {
+        PartPlace::Nothing | PartPlace::InBoth(_) => Err(at),
+        PartPlace::Whole(tree) => seek_in_tree(tree, at),
+        PartPlace::InSeq(others) => seek_in_turn(others, at),
+        PartPlace::InTimes(turns, child) => {
             if turns == 0 {
                 return Err(at);
             }
@@ -170,15 +170,18 @@ fn offers_of_parts<A: Allocator, B: Allocator>(
 }
 
 #[tactic(auto, using(scenario::proofs::Fronts::fronts))]
-fn offers_behind<A: Allocator>(place: Place<'_, A>, out: &mut Vec<CoreAsk>) -> Result<(), NoMemory>
+fn offers_behind<A: Allocator>(
+    place: PartPlace<'_, A>,
+    out: &mut Vec<CoreAsk>,
+) -> Result<(), NoMemory>
     ensures ok { OnOk result (out.new.items ≡ out.old.items ++ offers (behind place.entry)) }
     ensures front { take (length out.old.items) out.new.items ≡ out.old.items }
 {
     match place {
-        Place::Nothing | Place::InBoth(_) => Ok(()),
-        Place::Whole(tree) => offers_of_tree(tree, out),
-        Place::InSeq(others) => offers_in_turn(others, out),
-        Place::InTimes(turns, child) => {
+        PartPlace::Nothing | PartPlace::InBoth(_) => Ok(()),
+        PartPlace::Whole(tree) => offers_of_tree(tree, out),
+        PartPlace::InSeq(others) => offers_in_turn(others, out),
+        PartPlace::InTimes(turns, child) => {
             if turns == 0 {
                 return Ok(());
             }

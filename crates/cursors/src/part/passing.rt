@@ -11,7 +11,7 @@ ghost use Rattle.scenario.specs.Tree.{plain_all};
 ghost use Rattle.cursors.specs.inner.Turns.{chooses};
 
 use super::repeating::{first_is_over, is_ask};
-use super::{Part, Place};
+use super::{Part, PartPlace};
 use scenario::Scenario;
 use std::alloc::Allocator;
 
@@ -27,13 +27,13 @@ pub(crate) fn pass_turn<A: Allocator, B: Allocator>(part: &mut Part<'_, A, B>) -
     ensures chooses { chooses part.new ≡ true }
     ensures held { stock part.new ≡ stock part.old }
 {
-    let Place::InTimes(turns, child) = part.place() else {
+    let PartPlace::InTimes(turns, child) = part.place() else {
         return false;
     };
     if turns <= 1 || !first_is_over(part) {
         return false;
     }
-    part.move_to(Place::InTimes(turns - 1, child));
+    part.move_to(PartPlace::InTimes(turns - 1, child));
     true
 }
 
@@ -47,9 +47,10 @@ pub(crate) fn pass_at_once<A: Allocator, B: Allocator>(part: &mut Part<'_, A, B>
     ensures held { stock part.new ≡ stock part.old }
 {
     match part.place() {
-        Place::InSeq(others) => first_is_over(part) && pass_ask(part, others, at),
-        Place::Whole(Scenario::Seq(children)) => pass_ask(part, children.as_slice(), at),
-        Place::Nothing | Place::Whole(_) | Place::InTimes(..) | Place::InBoth(_) => false,
+        PartPlace::InSeq(others) => first_is_over(part) && pass_ask(part, others, at),
+        PartPlace::Whole(Scenario::Seq(children)) => pass_ask(part, children.as_slice(), at),
+        PartPlace::Nothing | PartPlace::Whole(_) | PartPlace::InTimes(..) | PartPlace::InBoth(_) =>
+            false,
     }
 }
 
@@ -68,7 +69,7 @@ fn pass_ask<'t, A: Allocator, B: Allocator>(
     if at != 0 || row.is_empty() || !is_ask(&row[0]) || !end_first(part) {
         return false;
     }
-    part.move_to(Place::InSeq(&row[1..]));
+    part.move_to(PartPlace::InSeq(&row[1..]));
     true
 }
 
@@ -85,7 +86,7 @@ fn end_first<A: Allocator, B: Allocator>(part: &mut Part<'_, A, B>) -> bool
             if parts.is_empty() {
                 return false;
             }
-            parts[0].move_to(Place::Nothing);
+            parts[0].move_to(PartPlace::Nothing);
             true
         }
         Part::Fresh(_) => false,

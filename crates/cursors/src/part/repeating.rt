@@ -7,7 +7,7 @@ ghost use Rattle.cursors.specs.Repeats.{Repeats};
 ghost use Rattle.scenario.specs.Tree.{plain, plain_all};
 ghost use Rattle.cursors.specs.inner.Turns.{all_asks, chooses, is_ask, is_choice};
 
-use super::{Part, Place};
+use super::{Part, PartPlace};
 use scenario::Scenario;
 use std::alloc::Allocator;
 
@@ -17,8 +17,9 @@ pub(crate) fn part_repeats<A: Allocator, B: Allocator>(part: &Part<'_, A, B>) ->
     ensures { result ≡ true → Repeats (part_left part.now) }
 {
     match part.place() {
-        Place::Whole(tree) => tree_repeats(tree),
-        Place::Nothing | Place::InSeq(_) | Place::InTimes(..) | Place::InBoth(_) => false,
+        PartPlace::Whole(tree) => tree_repeats(tree),
+        PartPlace::Nothing | PartPlace::InSeq(_) | PartPlace::InTimes(..) | PartPlace::InBoth(_) =>
+            false,
     }
 }
 
@@ -28,8 +29,9 @@ pub(crate) fn chooses<A: Allocator, B: Allocator>(part: &Part<'_, A, B>) -> bool
     ensures { result ≡ chooses part.now }
 {
     match part.place() {
-        Place::InTimes(_, child) => is_choice(child),
-        Place::Nothing | Place::Whole(_) | Place::InSeq(_) | Place::InBoth(_) => false,
+        PartPlace::InTimes(_, child) => is_choice(child),
+        PartPlace::Nothing | PartPlace::Whole(_) | PartPlace::InSeq(_) | PartPlace::InBoth(_) =>
+            false,
     }
 }
 
@@ -49,7 +51,7 @@ fn is_over<A: Allocator, B: Allocator>(part: &Part<'_, A, B>) -> bool
     ensures { result ≡ true → progress part.now ≡ Nothing }
 {
     match part.place() {
-        Place::Nothing => true,
+        PartPlace::Nothing => true,
         _ => false,
     }
 }

@@ -9,7 +9,7 @@ ghost use Rattle.scenario.specs.Taking.{offers, offers_in_turn, offers_of_all};
 ghost use Rattle.scenario.specs.Tree as tree;
 ghost use Rattle.scenario.specs.Tree.{plain, plain_all};
 
-use super::{Part, Place};
+use super::{Part, PartPlace};
 use base::NoMemory;
 use scenario::Scenario;
 use scenario::seeking::{place_among, place_in_turn};
@@ -32,7 +32,7 @@ pub(super) fn start<'t, A: Allocator, B: Allocator + Clone>(
 {
     match tree {
         Scenario::One(_) => {
-            part.move_to(Place::Nothing);
+            part.move_to(PartPlace::Nothing);
             Ok(())
         }
         Scenario::Seq(children) => start_row(part, children.as_slice(), alloc, at),
@@ -61,7 +61,7 @@ pub(super) fn start_row<'t, A: Allocator, B: Allocator + Clone>(
 {
     let offer = place_in_turn(children, at);
     start_part(part, 1, 0, &children[offer.child], alloc, offer.at)?;
-    part.move_to(Place::InSeq(&children[offer.child + 1..]));
+    part.move_to(PartPlace::InSeq(&children[offer.child + 1..]));
     Ok(())
 }
 
@@ -82,7 +82,7 @@ pub(super) fn start_turn<'t, A: Allocator, B: Allocator + Clone>(
     ensures held { Adds (stock part.old) (With (room (plain child.now)) Empty) (stock part.new) }
 {
     start_part(part, 1, 0, child, alloc, at)?;
-    part.move_to(Place::InTimes(turns - 1, child));
+    part.move_to(PartPlace::InTimes(turns - 1, child));
     Ok(())
 }
 
@@ -110,7 +110,7 @@ fn start_both<'t, A: Allocator, B: Allocator + Clone>(
         offer.at,
     )?;
     keep_others(part, children, offer.child);
-    part.move_to(Place::InBoth(children.len()));
+    part.move_to(PartPlace::InBoth(children.len()));
     Ok(())
 }
 
@@ -171,7 +171,7 @@ fn make_whole_but<'t, A: Allocator, B: Allocator>(
 {
     let begun = mem::replace(&mut parts[number], Part::ended());
     for (i, child) in children.iter().enumerate() {
-        parts[i].move_to(Place::Whole(child));
+        parts[i].move_to(PartPlace::Whole(child));
     }
     parts[number] = begun;
 }

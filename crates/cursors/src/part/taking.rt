@@ -7,7 +7,7 @@ ghost use Rattle.cursors.specs.Stock.{stock, wants};
 ghost use Rattle.scenario.specs.Taking.{offers};
 
 use super::starting::{start, start_row, start_turn};
-use super::{Part, Place};
+use super::{Part, PartPlace};
 use base::NoMemory;
 use scenario::seeking::find_among;
 use std::alloc::Allocator;
@@ -65,9 +65,9 @@ fn go_on<A: Allocator, B: Allocator + Clone>(
     ensures held { Adds (stock part.old) (wants_behind (place_of part.old)) (stock part.new) }
 {
     match part.place() {
-        Place::Nothing | Place::InBoth(_) => unreachable!(),
-        Place::Whole(tree) => start(part, tree, alloc, at),
-        Place::InSeq(others) => start_row(part, others, alloc, at),
-        Place::InTimes(turns, child) => start_turn(part, turns, child, alloc, at),
+        PartPlace::Nothing | PartPlace::InBoth(_) => unreachable!(),
+        PartPlace::Whole(tree) => start(part, tree, alloc, at),
+        PartPlace::InSeq(others) => start_row(part, others, alloc, at),
+        PartPlace::InTimes(turns, child) => start_turn(part, turns, child, alloc, at),
     }
 }

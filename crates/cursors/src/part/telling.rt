@@ -5,7 +5,7 @@ ghost use Rattle.scenario.specs.Taking.{offers};
 ghost use Rattle.cursors.specs.Telling.{Tells};
 
 use super::repeating::first_is_over;
-use super::{Part, Place};
+use super::{Part, PartPlace};
 use crate::telling::{Next, row_next, tree_next, turn_next};
 use std::alloc::Allocator;
 
@@ -14,10 +14,10 @@ pub(crate) fn part_next<A: Allocator, B: Allocator>(part: &Part<'_, A, B>) -> Ne
     ensures { Tells result (offers (part_left part.now)) }
 {
     match part.place() {
-        Place::Nothing => Next::Nothing,
-        Place::Whole(tree) => tree_next(tree),
-        Place::InSeq(others) if first_is_over(part) => row_next(others),
-        Place::InTimes(turns, child) if first_is_over(part) => turn_next(turns, child),
-        Place::InSeq(_) | Place::InTimes(..) | Place::InBoth(_) => Next::Unknown,
+        PartPlace::Nothing => Next::Nothing,
+        PartPlace::Whole(tree) => tree_next(tree),
+        PartPlace::InSeq(others) if first_is_over(part) => row_next(others),
+        PartPlace::InTimes(turns, child) if first_is_over(part) => turn_next(turns, child),
+        PartPlace::InSeq(_) | PartPlace::InTimes(..) | PartPlace::InBoth(_) => Next::Unknown,
     }
 }

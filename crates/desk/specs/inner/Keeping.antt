@@ -4,24 +4,24 @@ use Rattle.std.specs.List.Sorted.{IsStrictlyIncreasing}
 use Rattle.atomic_table.specs.Table.{Me}
 use Rattle.atomic_table.specs.Seated.{TableId}
 use Rattle.trials.specs.declared.verdict.TrialResult.{TrialResult}
-use Rattle.desk.specs.declared.word.TokenView.{TokenView}
+use Rattle.desk.specs.declared.word.WordTokenView.{WordTokenView}
 use Rattle.desk.specs.declared.word.Size.{Size}
-use Rattle.desk.specs.declared.seats.Stage.{Stage}
-use Rattle.desk.specs.declared.seats.Stage.TheVariants.{Free, Claimed, Posted}
+use Rattle.desk.specs.declared.seats.NumberStage.{NumberStage}
+use Rattle.desk.specs.declared.seats.NumberStage.TheVariants.{Free, Claimed, Posted}
 use Rattle.trials.specs.Terms.{Plan}
 use Rattle.desk.specs.Plans.{IsResultOf}
 use Rattle.desk.specs.Counting.{times}
-use Rattle.desk.specs.Seats.{SeatView, HasPosted, Knows}
+use Rattle.desk.specs.Seats.{DeskSeatView, HasPosted, Knows}
 use Rattle.desk.specs.Closing.{IsPlace}
 
 -- whether a number at this stage is claimed
-abbrev pub is_claimed : Stage → Bool
+abbrev pub is_claimed : NumberStage → Bool
 is_claimed Free = false
 is_claimed Claimed = true
 is_claimed Posted = true
 
 -- whether a number at this stage is posted
-abbrev pub is_posted : Stage → Bool
+abbrev pub is_posted : NumberStage → Bool
 is_posted Free = false
 is_posted Claimed = false
 is_posted Posted = true
@@ -40,7 +40,7 @@ abbrev pub IsOwn : List ℕ → List (Option TrialResult) → ℕ → Type 0
 IsOwn drawn known k = (0 < times k drawn) × (r : TrialResult) × (slice_index_or known k None ≡ Some r) × (r.number ≡ k)
 
 -- a seat has a token of one part that drew what it claimed, in rising order, and knows what it posted
-pub record IsSeat (me : Me (Unit {0}) TokenView) (count : ℕ) (told : Bool) (claims posts : List Bool) (known : List (Option TrialResult)) : Type 0 where
+pub record IsDeskSeat (me : Me (Unit {0}) WordTokenView) (count : ℕ) (told : Bool) (claims posts : List Bool) (known : List (Option TrialResult)) : Type 0 where
   pub me_is : me ≡ (record { parts = 1; count = count; drawn = me.0.drawn; over = told }, [])
   pub rises : IsStrictlyIncreasing me.0.drawn
   pub below : (x : ℕ) → 0 < times x me.0.drawn → x < count
@@ -51,10 +51,10 @@ pub record IsSeat (me : Me (Unit {0}) TokenView) (count : ℕ) (told : Bool) (cl
   pub posts_are : (k : ℕ) → slice_index_or posts k false ≡ true → IsOwn me.0.drawn known k
 
 -- what one seat adds to a place: what it posted there, else nothing
-abbrev pub Collects : Plan → SeatView → ℕ → Option TrialResult → Option TrialResult → Type 0
+abbrev pub Collects : Plan → DeskSeatView → ℕ → Option TrialResult → Option TrialResult → Type 0
 Collects plan s k o new = (¬ HasPosted s k → new ≡ o) × (HasPosted s k → (r : TrialResult) × (new ≡ Some r) × Knows s k r × IsResultOf plan k r)
 
 -- what stands at a place once the first m seats have added to it
-abbrev pub IsPlaceUpTo : Plan → List SeatView → ℕ → ℕ → Option TrialResult → Type 0
-IsPlaceUpTo plan row m k None = (i : ℕ) (s : SeatView) → i < m → slice_get row i ≡ Some s → HasPosted s k → ⊥
+abbrev pub IsPlaceUpTo : Plan → List DeskSeatView → ℕ → ℕ → Option TrialResult → Type 0
+IsPlaceUpTo plan row m k None = (i : ℕ) (s : DeskSeatView) → i < m → slice_get row i ≡ Some s → HasPosted s k → ⊥
 IsPlaceUpTo plan row m k (Some r) = IsPlace plan row k (Some r)

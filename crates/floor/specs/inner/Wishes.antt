@@ -1,9 +1,9 @@
 -- How a seat's wish is met.
 use Rattle.std.specs.Prelude.{◌≡◌, ℕ, Option, Some, None}
 use Rattle.record_lines.specs.declared.entry.Entry.{Entry}
-use Rattle.hall.specs.FloorId.{FloorId}
-use Rattle.hall.specs.Turning.{SeatView, with_receipt}
-use Rattle.hall.specs.Calling.{HadNone, WasDrawn, WasIts}
+use Rattle.floor.specs.FloorId.{FloorId}
+use Rattle.floor.specs.Turning.{SeatView, with_receipt}
+use Rattle.floor.specs.SeatCalling.{HadNone, WasDrawn, WasIts}
 use Rattle.floor.specs.declared.crews.Wish.{Wish}
 use Rattle.floor.specs.declared.crews.Wish.TheVariants.{Step, Any}
 

@@ -6,18 +6,18 @@ use Rattle.base.specs.declared.ids.Place.{Place}
 use Rattle.base.specs.declared.ids.Place.TheVariants.{Cache}
 use Rattle.machine.specs.Coherence.{line_at}
 use Rattle.machine.specs.Machine.{State}
-use Rattle.both_tables.specs.Tables.{Tables}
+use Rattle.tables.specs.Tables.{Tables}
 use Rattle.blocks.specs.declared.block.asking.HeldAsks.{HeldAsks}
 use Rattle.cores.specs.Cores.{Core, is_free}
 use Rattle.scenario.specs.Alike.{Alike}
 use Rattle.scenario.specs.Taking.{left}
-use Rattle.lanes.specs.Lanes.{Laned, IsKept, IsListed, lanes_of, listed_at, offers_at, puttable, whole}
+use Rattle.lanes.specs.Lanes.{Laned, AreLanesKept, IsListed, lanes_of, listed_at, offers_at, puttable, whole}
 use Rattle.schedule.specs.Listed.{IsMarked, Listed, nothing_listed}
 use Rattle.schedule.specs.Marks.{all_marked, marked_by, offers_by}
 use Rattle.std.specs.List.{Contains}
 
 -- one lane was listed anew: of the others the same is kept, and they are where they were
-pub record KeepsOthers (lane : ℕ) (old new : Laned) : Type 0 where
+pub record KeepsOtherLanes (lane : ℕ) (old new : Laned) : Type 0 where
   pub count : length new.trees ≡ length old.trees
   pub ready : new.ready ≡ old.ready
   pub same : (other : ℕ) → other ≢ lane → listed_at new other ≡ listed_at old other
@@ -27,8 +27,8 @@ pub record KeepsOthers (lane : ℕ) (old new : Laned) : Type 0 where
 pub record TakesFrom (lane offer : ℕ) (old new : Laned) : Type 0 where
   pub there : lane < length old.trees
   pub rest : Alike (whole new) (left (whole old) offer)
-  pub kept : IsKept new
-  pub others : KeepsOthers lane old new
+  pub kept : AreLanesKept new
+  pub others : KeepsOtherLanes lane old new
 
 -- how many asks can be put by their marks
 abbrev pub count_by : List Core → Listed → ℕ

@@ -27,9 +27,9 @@ impl<'s, A: Allocator, B: Allocator + Clone> Lanes<'s, A, B> {
     ghost use Rattle.scenario.specs.Tree.{Tree};
     ghost use Rattle.schedule.specs.Choices.{chosen_step, rest_after};
     ghost use Rattle.lanes.specs.Fitting.{LanesFit};
-    ghost use Rattle.lanes.specs.Lanes.{AreLeft, AreAsFree, AreReady, Follows, IsKept, IsLevel, IsListed, laned, lanes_of, listed_at, offers_at, whole};
+    ghost use Rattle.lanes.specs.Lanes.{AreLeft, AreAsFree, AreReady, FollowsStep, AreLanesKept, IsLevel, IsListed, laned, lanes_of, listed_at, offers_at, whole};
     ghost use Rattle.lanes.specs.Picks.{IsPicked, choice_of};
-    ghost use Rattle.lanes.specs.inner.Changes.{AreCountedAt, ChangesCounts, IsCountedAt, IsCountedIf, IsCountedIn, KeepsOthers};
+    ghost use Rattle.lanes.specs.inner.Changes.{AreCountedAt, ChangesCounts, IsCountedAt, IsCountedIf, IsCountedIn, KeepsOtherLanes};
     ghost use Rattle.lanes.specs.inner.Changes.{TakesFrom, WereReady, counted_at};
     ghost use Rattle.schedule.specs.Listed.{IsMarked};
     ghost use Rattle.schedule.specs.Owned.{IsMarkedIf};
@@ -50,11 +50,11 @@ impl<'s, A: Allocator, B: Allocator + Clone> Lanes<'s, A, B> {
         world: &World,
         cores: &Cores,
     ) -> Result<(), NoMemory>
-        requires kept { IsKept (laned self.old) }
+        requires kept { AreLanesKept (laned self.old) }
         requires picked { IsPicked pick.now (laned self.old) }
         ensures left { OnOk result (AreLeft (rest_after (choice_of (laned self.old) pick.now) (whole (laned self.old))) (laned self.new)) }
         ensures ready { OnOk result ((before : State) (cores_before : List Core) → AreReady world.now.tables before cores_before (laned self.old) →
-            Follows world.now.tables (chosen_step (choice_of (laned self.old) pick.now)) made.now before world.now.state cores_before cores.now →
+            FollowsStep world.now.tables (chosen_step (choice_of (laned self.old) pick.now)) made.now before world.now.state cores_before cores.now →
             (turned ≡ false → AreAsFree cores_before cores.now) → AreReady world.now.tables world.now.state cores.now (laned self.new)) }
         ensures fits { (tree : Tree) → LanesFit self.old tree → LanesFit self.new tree }
     {
@@ -74,10 +74,10 @@ impl<'s, A: Allocator, B: Allocator + Clone> Lanes<'s, A, B> {
         pick: &Pick,
         world: &World,
     ) -> Result<Option<usize>, NoMemory>
-        requires kept { IsKept (laned self.old) }
+        requires kept { AreLanesKept (laned self.old) }
         requires picked { IsPicked pick.now (laned self.old) }
         ensures rest { OnOk result (Alike (whole (laned self.new)) (rest_after (choice_of (laned self.old) pick.now) (whole (laned self.old)))) }
-        ensures kept { OnOk result (IsKept (laned self.new)) }
+        ensures kept { OnOk result (AreLanesKept (laned self.new)) }
         ensures there { IfOk result (λ anew. IfSome anew (λ lane. lane < length (laned self.new).trees)) }
         ensures marked { IfOk result (λ anew. IfSome anew (λ lane. IsMarked world.now.tables world.now.state (listed_at (laned self.new) lane))) }
         ensures were { IfOk result (λ anew. (before : State) (cores_before : List Core) → before.broken ≡ false →
@@ -97,8 +97,8 @@ impl<'s, A: Allocator, B: Allocator + Clone> Lanes<'s, A, B> {
     /// Counts again what can be put of each lane that may offer an ask of the core whose cache a step went to.
     #[inline(always)]
     fn count_at(&mut self, at: Option<Place>, cores: &Cores)
-        requires { IsKept (laned self.old) }
-        ensures kept { IsKept (laned self.new) }
+        requires { AreLanesKept (laned self.old) }
+        ensures kept { AreLanesKept (laned self.new) }
         ensures counts { ChangesCounts (laned self.old) (laned self.new) }
         ensures each { (lane : ℕ) → lane < length (laned self.old).trees →
             IsCountedAt cores.now at (laned self.old) (laned self.new) lane }
@@ -112,10 +112,10 @@ impl<'s, A: Allocator, B: Allocator + Clone> Lanes<'s, A, B> {
     /// cache a step went to.
     #[inline(always)]
     fn count_anew(&mut self, anew: Option<usize>, at: Option<Place>, cores: &Cores)
-        requires kept { IsKept (laned self.old) }
+        requires kept { AreLanesKept (laned self.old) }
         requires there { IfSome anew (λ lane. lane < length (laned self.old).trees) }
         requires counted { AreCountedAt cores.now at (laned self.old) }
-        ensures kept { IsKept (laned self.new) }
+        ensures kept { AreLanesKept (laned self.new) }
         ensures counts { ChangesCounts (laned self.old) (laned self.new) }
         ensures each { (lane : ℕ) → lane < length (laned self.old).trees →
             IsCountedIf cores.now anew (laned self.old) (laned self.new) lane }
@@ -132,7 +132,7 @@ impl<'s, A: Allocator, B: Allocator + Clone> Lanes<'s, A, B> {
     /// Whether a lane is among those that may offer an ask of the core whose cache this is.
     #[inline(always)]
     fn is_reached(&self, at: Option<Place>, lane: usize) -> bool
-        requires kept { IsKept (laned self.now) }
+        requires kept { AreLanesKept (laned self.now) }
         requires there { lane < length (laned self.now).trees }
         ensures { result ≡ true → (core : CacheId) × (at ≡ Some (Cache core)) × Contains (lanes_of (laned self.now).reached core.0) lane }
     {
@@ -155,7 +155,7 @@ impl<'s, A: Allocator, B: Allocator + Clone> Lanes<'s, A, B> {
         place: usize,
         world: &World,
     ) -> Result<bool, NoMemory>
-        requires kept { IsKept (laned self.old) }
+        requires kept { AreLanesKept (laned self.old) }
         requires there { lane < length (laned self.old).trees }
         requires offered { place < length (offers_at (laned self.old) lane) }
         ensures takes { OnOk result (TakesFrom lane (sum (take lane (laned self.old).lengths) + place) (laned self.old) (laned self.new)) }
@@ -180,7 +180,7 @@ impl<'s, A: Allocator, B: Allocator + Clone> Lanes<'s, A, B> {
         ensures stocks { (laned self.new).stocks ≡ (laned self.old).stocks }
         ensures level { OnOk result (IsLevel (laned self.new)) }
         ensures listed { OnOk result (IsListed (laned self.new) lane) }
-        ensures others { OnOk result (KeepsOthers lane (laned self.old) (laned self.new)) }
+        ensures others { OnOk result (KeepsOtherLanes lane (laned self.old) (laned self.new)) }
         ensures marks { IfOk result (λ anew. IsMarkedIf world.now.tables world.now.state anew
             (listed_at (laned self.old) lane) (listed_at (laned self.new) lane)) }
     {
@@ -204,7 +204,7 @@ impl<'s, A: Allocator, B: Allocator + Clone> Lanes<'s, A, B> {
     /// Counts anew what can be put of each lane that may offer an ask of a core.
     #[inline(always)]
     fn count_core(&mut self, core: CacheId, cores: &Cores)
-        requires { IsKept (laned self.old) }
+        requires { AreLanesKept (laned self.old) }
         ensures counts { ChangesCounts (laned self.old) (laned self.new) }
         ensures each { (lane : ℕ) → lane < length (laned self.old).trees →
             IsCountedIn cores.now (laned self.old).listed (lanes_of (laned self.old).reached core.0)

@@ -43,7 +43,7 @@ impl<'s, A: Allocator, B: Allocator + Clone> Lanes<'s, A, B> {
     ghost use Rattle.scenario.specs.Alike.{Alike};
     ghost use Rattle.scenario.specs.Tree.{plain};
     ghost use Rattle.lanes.specs.Fitting.{LanesFit, how_many, lane_trees};
-    ghost use Rattle.lanes.specs.Lanes.{AreLeft, AreReady, IsKept, IsLevel, laned, whole};
+    ghost use Rattle.lanes.specs.Lanes.{AreLeft, AreReady, AreLanesKept, IsLevel, laned, whole};
 
     /// All of a scenario is left. So many cores have the lanes noted that may offer an ask of them, which ought to be those of the
     /// world; any other number costs time alone.
@@ -106,7 +106,7 @@ impl<'s, A: Allocator, B: Allocator + Clone> Lanes<'s, A, B> {
         requires { IsLevel (laned self.old) }
         ensures trees { OnOk result ((laned self.new).trees ≡ (laned self.old).trees) }
         ensures stocks { (laned self.new).stocks ≡ (laned self.old).stocks }
-        ensures kept { OnOk result (IsKept (laned self.new)) }
+        ensures kept { OnOk result (AreLanesKept (laned self.new)) }
         ensures ready { OnOk result (AreReady world.now.tables world.now.state cores.now (laned self.new)) }
     {
         for lane in 0..self.lanes.len() {

@@ -19,9 +19,9 @@ impl<'s, A: Allocator, B: Allocator + Clone> Lanes<'s, A, B> {
     ghost use Rattle.base.specs.Steps.{block_of};
     ghost use Rattle.base.specs.declared.step.Step.{Step};
     ghost use Rattle.cores.specs.Cores.{Core};
-    ghost use Rattle.both_tables.specs.Tables.{Tables};
+    ghost use Rattle.tables.specs.Tables.{Tables};
     ghost use Rattle.machine.specs.Machine.{State};
-    ghost use Rattle.lanes.specs.Lanes.{Follows, IsKept, laned, lanes_of, listed_at};
+    ghost use Rattle.lanes.specs.Lanes.{FollowsStep, AreLanesKept, laned, lanes_of, listed_at};
     ghost use Rattle.schedule.specs.Listed.{IsMarked};
     ghost use Rattle.lanes.specs.inner.Changes.{AreMarked, IsMarkedIn, ChangesMarks, WereReady, marked_in};
 
@@ -35,14 +35,14 @@ impl<'s, A: Allocator, B: Allocator + Clone> Lanes<'s, A, B> {
         block: BlockId,
         world: &World,
     ) -> bool
-        requires { IsKept (laned self.old) }
-        ensures kept { IsKept (laned self.new) }
+        requires { AreLanesKept (laned self.old) }
+        ensures kept { AreLanesKept (laned self.new) }
         ensures same { ChangesMarks (laned self.old) (laned self.new) }
         ensures left { result ≡ false → laned self.new ≡ laned self.old }
         ensures marked { (now : State) (step : Step) (before : State) (cores_before cores_now : List Core) (but : Option ℕ) →
             IfSome done (λ lane. IsMarked world.now.tables now (listed_at (laned self.old) lane)) →
             before.broken ≡ false → now.broken ≡ false → block.0 ≡ block_of step →
-            Follows world.now.tables step made.now before now cores_before cores_now →
+            FollowsStep world.now.tables step made.now before now cores_before cores_now →
             WereReady world.now.tables before cores_before now but (laned self.old) → AreMarked world.now.tables now (laned self.new) }
     {
         let Some(acted) = made.acted else {
@@ -79,8 +79,8 @@ impl<'s, A: Allocator, B: Allocator + Clone> Lanes<'s, A, B> {
     /// Marks anew the offers of a core about a block, of which these are held, but for a lane that is marked already, if there is one.
     #[inline(always)]
     fn mark_core(&mut self, done: Option<usize>, core: CacheId, block: BlockId, held: HeldAsks)
-        requires { IsKept (laned self.old) }
-        ensures kept { IsKept (laned self.new) }
+        requires { AreLanesKept (laned self.old) }
+        ensures kept { AreLanesKept (laned self.new) }
         ensures same { ChangesMarks (laned self.old) (laned self.new) }
         ensures each { (lane : ℕ) → lane < length (laned self.old).trees →
             IsMarkedIn held core block (lanes_of (laned self.old).reached core.0) done

@@ -1,16 +1,16 @@
 -- What holds of every moment that is usable.
 use Rattle.std.specs.Prelude.{◌≡◌, true, List, Some, None, if◌then◌else◌}
-use Rattle.both_tables.specs.Tables.{Tables}
+use Rattle.tables.specs.Tables.{Tables}
 use Rattle.machine.specs.Machine.{State}
 use Rattle.cores.specs.Cores.{Core}
-use Rattle.lanes.specs.Lanes.{AreReady, IsKept, Laned, laned, whole}
+use Rattle.lanes.specs.Lanes.{AreReady, AreLanesKept, Laned, laned, whole}
 use Rattle.moment.specs.Seen.{Seen}
 use Rattle.moment.specs.declared.moments.Moment.TheInside.{Inside}
 use Rattle.moment.specs.inner.Tracked.{IsTracked}
 
 -- what is kept of the lanes is right, and so are the counts of what can be put; and each core waits for what is pending at its cache
 pub record Holds (tables : Tables) (state : State) (cores : List Core) (lanes : Laned) : Type 0 where
-  pub kept : IsKept lanes
+  pub kept : AreLanesKept lanes
   pub ready : AreReady tables state cores lanes
   pub tracked : IsTracked state cores
 

@@ -1,7 +1,7 @@
 -- What comes of a cell's actions at a pair that is given up as soon as it isn't few any more, and what completes then.
 use Rattle.std.specs.Prelude.{Option, Some, None, Bool, false, if◌then◌else◌}
 use Rattle.cache_table.specs.declared.state.CacheState.{CacheState}
-use Rattle.cache_line.specs.LineEffect.{is_reader, is_modified}
+use Rattle.control.specs.LineEffect.{is_reader, is_modified}
 use Rattle.pairs.specs.declared.side.Waiting.{Waiting}
 use Rattle.pairs.specs.declared.side.Waiting.TheVariants as waiting_for
 use Rattle.pairs.specs.declared.pair.Pair.{Pair}

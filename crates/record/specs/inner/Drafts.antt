@@ -3,23 +3,24 @@ use Rattle.std.specs.Prelude.{◌≡◌, ℕ, ◌+◌, ◌<◌, ◌≤◌, List,
 use Rattle.std.specs.Vec.{vec_capacity}
 use Rattle.base.specs.Extent.{Extent, IsWithinLimits}
 use Rattle.base.specs.declared.controller.protocol.Protocol.TheVariants.{Msi}
-use Rattle.both_tables.specs.CellPlaces.{place_number}
-use Rattle.both_tables.specs.Tables.{Tables, baseline_of}
-use Rattle.both_tables.specs.declared.cell_places.CellPlace.{CellPlace}
+use Rattle.tables.specs.CellPlaces.{place_number}
+use Rattle.tables.specs.Tables.{Tables, baseline_of}
+use Rattle.tables.specs.declared.cell_places.CellPlace.{CellPlace}
 use Rattle.record.specs.declared.draft.Draft.{Draft}
 use Rattle.record_lines.specs.declared.due.Due.{Due}
-use Rattle.record_lines.specs.declared.due.Form.{Form}
+use Rattle.record_lines.specs.declared.due.TextHead.{TextHead}
 use Rattle.record_lines.specs.declared.entry.Entry.{Entry}
 use Rattle.record_lines.specs.declared.version.Version.{Version}
 use Rattle.record_lines.specs.declared.version.Version.TheVariants.{Two}
-use Rattle.record.specs.Versions.{protocol_lines, seats_lines, CanTell, IsShapeIn}
+use Rattle.record_lines.specs.Versions.{protocol_lines, seats_lines, CanTell, IsShapeIn}
 use Rattle.record_lines.specs.declared.due.Due.TheVariants.{Header, ProtocolLine, ShapeLine, SeatsLine, OpeningLine, CellCount, CellLine, EntryCount}
 use Rattle.record_lines.specs.declared.due.Due.TheVariants.{EntryLine, EndLine, Nothing}
 use Rattle.record_lines.specs.Cells.{cell_at, cell_words}
 use Rattle.record_lines.specs.Grammar.{AreValues, FitsEntry, Leads}
 use Rattle.record.specs.View.{AreOwners, RecordingView}
 use Rattle.record.specs.Recordable.{AreWhole}
-use Rattle.record.specs.Text.{lines, head_lines, header_words, shape_words, cells_words, changed_cells, entries_words, told, told_words}
+use Rattle.record.specs.Text.{lines, head_lines, changed_cells, told}
+use Rattle.record_lines.specs.Text.{header_words, shape_words, cells_words, entries_words, told_words}
 
 -- a recording as far as it was read, and the version of its text
 pub record Kept : Type 0 where
@@ -91,7 +92,7 @@ lines_before (EndLine f) r = lines_to_entries r (length r.entries)
 lines_before Nothing r = lines r.version (recorded r)
 
 -- what the head of the text has told so far
-abbrev pub IsHeadedAs : Form → Kept → Type 0
+abbrev pub IsHeadedAs : TextHead → Kept → Type 0
 IsHeadedAs f r = (f.version ≡ r.version) × (f.protocol ≡ r.tables.protocol) × (f.seats ≡ r.seats) × CanTell r.version r.tables.protocol r.seats
 
 abbrev pub IsHeadedTo : Due → Kept → Type 0

@@ -6,15 +6,16 @@ use Rattle.base.specs.Extent.{Extent}
 use Rattle.base.specs.declared.controller.protocol.Protocol.{Protocol}
 use Rattle.record_lines.specs.declared.told.Told.{Told}
 use Rattle.record_lines.specs.declared.version.Version.TheVariants.{Two}
-use Rattle.record.specs.Versions.{protocol_words, seats_words}
-use Rattle.both_tables.specs.CellPlaces.{all_places}
-use Rattle.both_tables.specs.Tables.{Tables}
-use Rattle.both_tables.specs.declared.cell_places.CellPlace.{CellPlace}
+use Rattle.record_lines.specs.Versions.{protocol_words, seats_words}
+use Rattle.tables.specs.CellPlaces.{all_places}
+use Rattle.tables.specs.Tables.{Tables}
+use Rattle.tables.specs.declared.cell_places.CellPlace.{CellPlace}
 use Rattle.record_lines.specs.declared.entry.Entry.{Entry}
 use Rattle.record_lines.specs.Cells.{cell_at, cell_words}
 use Rattle.record_lines.specs.Grammar.{FitsEntry}
 use Rattle.record.specs.View.{RecordingView}
-use Rattle.record.specs.Text.{line, header_words, shape_words, cells_words, changed_cells, is_changed, entries_words, told, told_words, end_words}
+use Rattle.record_lines.specs.Text.{line, header_words, shape_words, cells_words, entries_words, told_words, end_words}
+use Rattle.record.specs.Text.{changed_cells, is_changed, told}
 
 -- a sink failed before it had all of a text: exactly a front of it went out, and so many bytes in all
 pub record IsCutOff (before after : Option (List ℕ)) (text : List ℕ) (already in_all : ℕ) : Type 0 where

@@ -2,7 +2,7 @@
 use Rattle.std.specs.Prelude.{◌≡◌, ℕ, ◌+◌, ◌≤◌, List, [], Option, length, map}
 use Rattle.std.specs.List.{flat_map}
 use Rattle.std.specs.Io.KnownBytes.{Consumes}
-use Rattle.base.specs.Spelling.{words}
+use Rattle.base.specs.Words.{words}
 use Rattle.record_lines.specs.declared.due.Due.TheVariants.{Header, Nothing}
 use Rattle.record.specs.declared.reader.Reader.{Reader}
 use Rattle.record_lines.specs.Grammar.{Follow}

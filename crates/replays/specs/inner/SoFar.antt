@@ -4,11 +4,11 @@ use Rattle.base.specs.declared.step.Step.{Step}
 use Rattle.base.specs.declared.step.Outcome.{Outcome}
 use Rattle.machine.specs.Machine.{opened, state_after, outcomes_of}
 use Rattle.world.specs.View.{View}
-use Rattle.violations.specs.declared.violation.Violation.{Violation}
-use Rattle.violations.specs.Watching.{HasSeen}
+use Rattle.monitor.specs.declared.violation.Violation.{Violation}
+use Rattle.monitor.specs.Watching.{HasSeen}
 use Rattle.record_lines.specs.declared.entry.Entry.{Entry}
 use Rattle.record.specs.View.{RecordingView}
-use Rattle.violations.specs.Violations.{AnswersFirst}
+use Rattle.monitor.specs.Violations.{AnswersFirst}
 
 -- the steps of entries
 abbrev pub steps_in : List Entry → List Step

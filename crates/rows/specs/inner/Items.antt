@@ -8,7 +8,7 @@ abbrev pub items_of : {T : Type 0} → List (ℕ × T) → ℕ → List (Option 
 items_of held places = map (λ at. lookup (nat_eq at) held) (range_with_len 0 places)
 
 -- nothing is held beyond so many places
-pub record IsWithin {T : Type 0} (held : List (ℕ × T)) (places : ℕ) : Type 0 where
+pub record IsWithinRow {T : Type 0} (held : List (ℕ × T)) (places : ℕ) : Type 0 where
   pub beyond : (at : ℕ) → places ≤ at → lookup (nat_eq at) held ≡ None
 
 -- each key stands where the hint for its place says
@@ -16,8 +16,8 @@ pub record AreHinted (keys hints : List ℕ) : Type 0 where
   pub each : (i at : ℕ) → slice_get keys i ≡ Some at → slice_index hints (at % 64) ≡ i
 
 -- nothing is held beyond the places, and hints that are told to be exact are
-pub record IsKept {T : Type 0} (held : List (ℕ × T)) (places : ℕ) (hints : List ℕ) (exact : Bool) : Type 0 where
-  pub within : IsWithin held places
+pub record AreItemsKept {T : Type 0} (held : List (ℕ × T)) (places : ℕ) (hints : List ℕ) (exact : Bool) : Type 0 where
+  pub within : IsWithinRow held places
   pub hinted : exact ≡ true → AreHinted (keys_of held) hints
 
 -- the keys, with what is seen of each item

@@ -8,11 +8,11 @@ use Rattle.scenario.specs.Nodes.{Node, one, seq, any, times, both, node_of}
 use Rattle.scenario.specs.Refusals.{is_in_shape}
 use Rattle.scenario.specs.declared.reading.ScenarioFault.{ScenarioFault}
 use Rattle.scenario.specs.declared.reading.ScenarioFault.TheVariants.{BadShape, EmptyAny, TooDeep, OutOfShape, NoMemory}
-use Rattle.scenario.specs.declared.forms.Form.{Form}
-use Rattle.scenario.specs.declared.forms.Form.TheVariants as form
+use Rattle.scenario.specs.declared.forms.NodeForm.{NodeForm}
+use Rattle.scenario.specs.declared.forms.NodeForm.TheVariants as form
 
 -- the node that a form is, without where it lies
-abbrev pub form_node : Form → Node
+abbrev pub form_node : NodeForm → Node
 form_node (form.One ask) = one ask
 form_node (form.Seq values) = seq (items_view values.now)
 form_node (form.Any values) = any (items_view values.now)

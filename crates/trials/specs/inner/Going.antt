@@ -5,8 +5,8 @@ use Rattle.rand_pcg.specs.Pcg.{multiplier_64}
 use Rattle.base.specs.declared.step.Step.{Step}
 use Rattle.machine.specs.declared.made.Made.{Made}
 use Rattle.machine.specs.Machine.{after, opened}
-use Rattle.violations.specs.declared.violation.Violation.{Violation}
-use Rattle.violations.specs.Watching.{AnswersLast}
+use Rattle.monitor.specs.declared.violation.Violation.{Violation}
+use Rattle.monitor.specs.Watching.{AnswersLast}
 use Rattle.world.specs.View.{View}
 use Rattle.scenario.specs.Tree.{Tree}
 use Rattle.schedule.specs.Words.{dice, dice_after, word_of}
@@ -88,10 +88,10 @@ IsVerdictAtRest m Stuck = ¬ Rests m
 IsVerdictAtRest m other = ⊥
 
 -- the k-th choice has been made, and its step recorded and looked at
-pub record Makes (old : Course) (k : ℕ) (new : Course) (violation : Option Violation) : Type 0 where
+pub record MakesAndNotes (old : Course) (k : ℕ) (new : Course) (violation : Option Violation) : Type 0 where
   pub step : Step
   pub made : Made
-  pub makes : seen.Makes old.moment k step made new.moment
+  pub makes : seen.MakesChoice old.moment k step made new.moment
   pub like : IsLike old.moment new.moment
   pub dice : new.dice ≡ old.dice
   pub recorded : new.recording ≡ with_entry old.recording (record { step = step; outcome = made.outcome })
@@ -102,7 +102,7 @@ pub record Makes (old : Course) (k : ℕ) (new : Course) (violation : Option Vio
 -- so it is of each recording of which the old notes told, and the new ones tell of what it has become
 abbrev pub MakesNoted : {A N : Type 0} → (N → RecordingView → Type 0) → course.Course A N → ℕ → course.Course A N → Option Violation → Type 0
 MakesNoted tells old k new violation =
-    (r : RecordingView) → tells old.notes r → (made : RecordingView) × tells new.notes made × Makes (parts_of r old) k (parts_of made new) violation
+    (r : RecordingView) → tells old.notes r → (made : RecordingView) × tells new.notes made × MakesAndNotes (parts_of r old) k (parts_of made new) violation
 
 -- with this violation, if there is one, the trial has ended; else it goes on, with one more entry
 abbrev pub GoesOn : Terms → Tree → ℕ → Course → Option Violation → Type 0

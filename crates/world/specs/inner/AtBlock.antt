@@ -1,14 +1,14 @@
 -- What a step at one of the blocks leaves, kept or not, where blocks have so many caches and this one opens at a value.
 use Rattle.std.specs.Prelude.{◌≡◌, ◌≤◌, ◌⊎◌, ℕ, List, Option, false, length}
 use Rattle.base.specs.declared.step.Step.{Step}
-use Rattle.both_tables.specs.Tables.{Tables}
+use Rattle.tables.specs.Tables.{Tables}
 use Rattle.machine.specs.Made.{made_at}
 use Rattle.machine.specs.Transition.{decision_of, messages_of, transition}
 use Rattle.blocks.specs.Marking.{marks_of}
 use Rattle.blocks.specs.View.{BlockView, acts, acts_at_line, lines_after}
 use Rattle.world.specs.Keeping.{has_line}
 use Rattle.world.specs.View.{HasSpaceAt, space_of}
-use Rattle.world.specs.inner.Holding.{kept_at, state_at, IsLight, OthersStay}
+use Rattle.world.specs.inner.Holding.{kept_at, state_at, SendsAndWakesNothing, OthersStay}
 use Rattle.world.specs.inner.Tests.{IsMarked, IsTested, tested_in}
 use Rattle.world.specs.declared.at_block.Visit.{Visit}
 
@@ -45,7 +45,7 @@ pub record HasStayed (tables : Tables) (caches value number : ℕ) (step : Step)
   pub state : state_at caches value new number ≡ state_at caches value old number
 
 -- a step wants no memory at the block: there is room for it, or it wants nothing
-abbrev pub NeedsNone : Tables → ℕ → ℕ → ℕ → Step → List (Option BlockView) → Type 0
-NeedsNone tables caches value number step ks =
+abbrev pub NeedsNoMemoryAt : Tables → ℕ → ℕ → ℕ → Step → List (Option BlockView) → Type 0
+NeedsNoMemoryAt tables caches value number step ks =
     HasSpaceAt (decision_of tables step (state_at caches value ks number)) (state_at caches value ks number) (space_of (kept_at ks number))
-    ⊎ IsLight tables step (state_at caches value ks number)
+    ⊎ SendsAndWakesNothing tables step (state_at caches value ks number)

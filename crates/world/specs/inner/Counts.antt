@@ -6,12 +6,12 @@ use Rattle.base.specs.declared.step.Step.{Step}
 use Rattle.base.specs.declared.step.Step.TheVariants as step
 use Rattle.network.specs.Marks.{Marks}
 use Rattle.rows.specs.Counts.{Finds}
-use Rattle.world.specs.declared.counts.Kind.{Kind}
-use Rattle.world.specs.declared.counts.Kind.TheVariants.{Request, Head, Response}
+use Rattle.world.specs.declared.counts.DeliveryKind.{DeliveryKind}
+use Rattle.world.specs.declared.counts.DeliveryKind.TheVariants.{Request, Head, Response}
 use Rattle.world.specs.declared.counts.Spot.{Spot}
 use Rattle.blocks.specs.View.{BlockView}
 use Rattle.machine.specs.Block.{BlockState}
-use Rattle.both_tables.specs.Tables.{Tables}
+use Rattle.tables.specs.Tables.{Tables}
 use Rattle.blocks.specs.Marking.{free_requests, free_heads, free_responses}
 use Rattle.network.specs.Marks.{unmarked, unmarked_heads}
 
@@ -32,13 +32,13 @@ abbrev pub all_in : Rows → ℕ
 all_in rows = sum rows.requests + sum rows.heads + sum rows.responses
 
 -- the row of a kind
-abbrev pub row_of_kind : Rows → Kind → List ℕ
+abbrev pub row_of_kind : Rows → DeliveryKind → List ℕ
 row_of_kind rows Request = rows.requests
 row_of_kind rows Head = rows.heads
 row_of_kind rows Response = rows.responses
 
 -- how many of all come before the first of a kind
-abbrev pub count_before : Rows → Kind → ℕ
+abbrev pub count_before : Rows → DeliveryKind → ℕ
 count_before rows Request = 0
 count_before rows Head = sum rows.requests
 count_before rows Response = sum rows.requests + sum rows.heads
@@ -54,7 +54,7 @@ abbrev pub FallsAt : Rows → ℕ → Spot → Type 0
 FallsAt rows k spot = FallsInRow (row_of_kind rows spot.kind) (count_before rows spot.kind) k spot.block spot.rest
 
 -- the step that takes, of what a block with these marks has of a kind without a mark, the one that so many stand before
-abbrev pub step_of_kind : Marks → Kind → ℕ → ℕ → Option Step
+abbrev pub step_of_kind : Marks → DeliveryKind → ℕ → ℕ → Option Step
 step_of_kind marks Request block rest = option_map (λ i. step.Request (record { 0 = block }) i) (slice_get (unmarked 0 marks.requests) rest)
 step_of_kind marks Head block rest =
     option_map (λ cache. step.Forward (record { 0 = block }) (record { 0 = cache })) (slice_get (unmarked_heads 0 marks.links) rest)

@@ -1,16 +1,16 @@
 -- A block as a look finds it.
 use Rattle.std.specs.Prelude.{ℕ, Option, Some, None, Bool, true, false}
 use Rattle.base.specs.declared.step.Step.{Step}
-use Rattle.both_tables.specs.Tables.{Tables}
+use Rattle.tables.specs.Tables.{Tables}
 use Rattle.blocks.specs.Looks.{held_in}
 use Rattle.network.specs.Traffic.{is_quiet}
 use Rattle.machine.specs.Block.{BlockState, opened_block}
 use Rattle.blocks.specs.View as kept
-use Rattle.world.specs.declared.looks.Found.{Found}
-use Rattle.world.specs.declared.looks.Found.TheVariants.{Kept, Opened}
+use Rattle.world.specs.declared.looks.FoundBlock.{FoundBlock}
+use Rattle.world.specs.declared.looks.FoundBlock.TheVariants.{Kept, Opened}
 
 -- its state: a block that isn't kept is as it opens
-abbrev pub state_found : ℕ → Found → BlockState
+abbrev pub state_found : ℕ → FoundBlock → BlockState
 state_found caches (Kept block) = block.now.state
 state_found caches (Opened value) = opened_block caches value
 

@@ -5,7 +5,7 @@ use Rattle.base.specs.declared.step.Step.{Step}
 use Rattle.network.specs.Marks.{no_marks}
 use Rattle.machine.specs.Block.{BlockState, opened_block}
 use Rattle.machine.specs.Machine.{State}
-use Rattle.both_tables.specs.Tables.{Tables}
+use Rattle.tables.specs.Tables.{Tables}
 use Rattle.machine.specs.Transition.{decision_of, messages_of}
 use Rattle.blocks.specs.View.{BlockView, wakes_line}
 use Rattle.world.specs.inner.Counts.{AreCounted}
@@ -42,7 +42,7 @@ abbrev pub AreLined : ℕ → List (Option BlockView) → Type 0
 AreLined caches ks = (i : ℕ) (k : BlockView) → kept_at ks i ≡ Some k → length k.state.lines ≡ caches
 
 -- a step wants nothing at a block: it sends nothing, and isn't an ask that acts at a line in I
-pub record IsLight (tables : Tables) (step : Step) (b : BlockState) : Type 0 where
+pub record SendsAndWakesNothing (tables : Tables) (step : Step) (b : BlockState) : Type 0 where
   pub sends : messages_of (decision_of tables step b) b ≡ []
   pub wakes : wakes_line (decision_of tables step b) ≡ false
 

@@ -1,6 +1,6 @@
 -- What a world keeps of the tests of its blocks' messages.
 use Rattle.std.specs.Prelude.{◌≡◌, ℕ, Option, Some, None, slice_set}
-use Rattle.both_tables.specs.Tables.{Tables}
+use Rattle.tables.specs.Tables.{Tables}
 use Rattle.blocks.specs.View.{BlockView}
 use Rattle.blocks.specs.Marking.{marks_of}
 use Rattle.blocks.specs.Tests.{IsFound}

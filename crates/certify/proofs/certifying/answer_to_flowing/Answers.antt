@@ -1,6 +1,6 @@
-use Rattle.both_tables.specs.Tables.{Tables}
-use Rattle.both_tables.specs.declared.cell_places.CellPlace.{CellPlace}
-use Rattle.both_tables.specs.declared.cell_places.CellPlace.TheVariants.{Cache}
+use Rattle.tables.specs.Tables.{Tables}
+use Rattle.tables.specs.declared.cell_places.CellPlace.{CellPlace}
+use Rattle.tables.specs.declared.cell_places.CellPlace.TheVariants.{Cache}
 use Rattle.machine.specs.Going.{ServesAsks}
 use Rattle.certify.specs.Certificates.{ServesAt}
 use Rattle.certify.proofs.certifying.answer_to_flowing.Goals as goal

@@ -1,6 +1,6 @@
-use Rattle.both_tables.specs.Tables.{Tables}
-use Rattle.both_tables.specs.declared.cell_places.CellPlace.{CellPlace}
-use Rattle.both_tables.specs.declared.cell_places.CellPlace.TheVariants.{Cache, Directory}
+use Rattle.tables.specs.Tables.{Tables}
+use Rattle.tables.specs.declared.cell_places.CellPlace.{CellPlace}
+use Rattle.tables.specs.declared.cell_places.CellPlace.TheVariants.{Cache, Directory}
 use Rattle.machine.specs.Going.{KeepsGoing}
 use Rattle.certify.specs.Certificates.{LetsFlow}
 use Rattle.certify.proofs.certifying.answer_to_restrained.Goals as goal
@@ -12,4 +12,4 @@ pub answer_to_flowing-requires-clause-going : goal.answer_to_flowing-requires-cl
 answer_to_flowing-requires-clause-going c = going c.args.tables.now c.in-None.ensures.none
 
 pub returns-in-Some : goal.returns-in-Some
-returns-in-Some c = (c.requires, c.in-Some.ensures.some)
+returns-in-Some c = (c.requires.restrained, c.in-Some.ensures.some)

@@ -1,6 +1,6 @@
-use Rattle.both_tables.specs.Tables.{Tables}
-use Rattle.both_tables.specs.declared.cell_places.CellPlace.{CellPlace}
-use Rattle.both_tables.specs.declared.cell_places.CellPlace.TheVariants.{Cache, Directory}
+use Rattle.tables.specs.Tables.{Tables}
+use Rattle.tables.specs.declared.cell_places.CellPlace.{CellPlace}
+use Rattle.tables.specs.declared.cell_places.CellPlace.TheVariants.{Cache, Directory}
 use Rattle.machine.specs.Restraint.{AreRestrained}
 use Rattle.certify.specs.Certificates.{IsCertificate, SaysRestrained}
 use Rattle.certify.specs.Standings.{IsAdmitted}

@@ -1,7 +1,7 @@
 use Rattle.std.proofs.Common.{◌≡◌, Some, slice_get, sym, ◌∙◌, subst, arith, below_more}
-use Rattle.both_tables.specs.CellPlaces.{all_places, place_number}
-use Rattle.both_tables.specs.declared.cell_places.CellPlace.{CellPlace}
-use Rattle.both_tables.proofs.CellPlaces.{get-own}
+use Rattle.tables.specs.CellPlaces.{all_places, place_number}
+use Rattle.tables.specs.declared.cell_places.CellPlace.{CellPlace}
+use Rattle.tables.proofs.CellPlaces.{get-own}
 use Rattle.certify.specs.inner.Demands.{Meets}
 use Rattle.certify.proofs.certifying.first_against.Goals as goal
 

@@ -1,6 +1,6 @@
 use Rattle.std.proofs.Common.{◌≡◌, ℕ, ◌<◌, Some, slice_get}
-use Rattle.both_tables.specs.CellPlaces.{all_places}
-use Rattle.both_tables.specs.declared.cell_places.CellPlace.{CellPlace}
+use Rattle.tables.specs.CellPlaces.{all_places}
+use Rattle.tables.specs.declared.cell_places.CellPlace.{CellPlace}
 use Rattle.certify.specs.inner.Demands.{Meets}
 use Rattle.certify.proofs.certifying.first_against.Given as goal
 

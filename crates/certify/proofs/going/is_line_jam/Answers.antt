@@ -1,7 +1,7 @@
 use Rattle.std.proofs.Common.{◌≡◌, ◌∙◌, ap, sym}
-use Rattle.base.specs.declared.controller.entry.Entry.TheVariants.{Blank, Stall, Act}
+use Rattle.base.specs.declared.controller.entry.CellEntry.TheVariants.{Blank, Stall, Act}
 use Rattle.cache_table.specs.Table.{CacheEntry, cell}
-use Rattle.both_tables.specs.Tables.{Tables, baseline_of}
+use Rattle.tables.specs.Tables.{Tables, baseline_of}
 use Rattle.machine.specs.Going.{MayWait}
 use Rattle.certify.proofs.OwnEntries.{jams, no-blank, no-stall}
 use Rattle.certify.proofs.going.is_line_jam.Goals as goal
@@ -13,7 +13,8 @@ returns-in-Stall-Act c =
     let own : CacheEntry = cell (baseline_of t.protocol).cache c.args.state c.args.event in
     let held : entry ≡ Stall =
     ap (λ (u : Tables). cell u.cache c.args.state c.args.event) (sym c.tables.view_is) ∙ sym c.entry.ensures.entry ∙ c.in-Stall-Act.is-0 in
-    let acts : own ≡ Act c.in-Stall-Act.next-1 c.in-Stall-Act.actions-1 = sym c.own_line.ensures ∙ c.in-Stall-Act.is-1 in
+    let acts : own ≡ Act c.in-Stall-Act.next-1 c.in-Stall-Act.actions-1 =
+    ap (λ (u : Tables). cell u.cache c.args.state c.args.event) (sym c.requires ∙ sym c.own.view_is) ∙ sym c.entry-2.ensures.entry ∙ c.in-Stall-Act.is-1 in
     jams (MayWait t c.args.state c.args.event) entry own Stall Blank c.may_wait.result held
     (no-stall own c.in-Stall-Act.next-1 c.in-Stall-Act.actions-1 acts) (no-blank own c.in-Stall-Act.next-1 c.in-Stall-Act.actions-1 acts)
     c.may_wait.ensures

@@ -1,5 +1,5 @@
 use Rattle.std.proofs.Common.{ℕ, ◌⊎◌, inl, inr}
-use Rattle.both_tables.specs.Tables.{Tables}
+use Rattle.tables.specs.Tables.{Tables}
 use Rattle.machine.specs.Going.{AreNeverStuck, KeepsGoing}
 use Rattle.machine.specs.Restraint.{AreRestrained}
 use Rattle.closing.specs.Blamed.{HasFlow}

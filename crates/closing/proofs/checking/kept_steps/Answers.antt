@@ -1,7 +1,7 @@
 use Rattle.std.proofs.Common.{sym, subst, Contains, List, Option, IfSome}
 use Rattle.std.specs.Global.{Vec}
 use Rattle.closing.specs.declared.following.Followed.{Followed}
-use Rattle.closing.specs.declared.numbering.Numbers.{Numbers}
+use Rattle.closing.specs.declared.numbering.ViewNumbers.{ViewNumbers}
 use Rattle.closing.specs.declared.ranked.RankedPair.{RankedPair}
 use Rattle.closing.specs.inner.Numbered.{AreNumbered}
 use Rattle.closing.specs.inner.Told.{AreTold, Keeps}
@@ -10,7 +10,7 @@ use Rattle.closing.proofs.checking.kept_steps.Goals as goal
 
 pub returns : goal.returns
 returns c =
-    let numbered = subst (λ (o : Option Numbers). IfSome o (λ n. AreNumbered c.args.list.now n.views.items n.firsts.items n.seconds.items n.spans.items))
+    let numbered = subst (λ (o : Option ViewNumbers). IfSome o (λ n. AreNumbered c.args.list.now n.views.items n.firsts.items n.seconds.items n.spans.items))
     c.in-Some.is c.in_ok-numbers.ensures in
     let told : AreTold c.args.tables.now c.args.list.now c.deref.result.now =
     subst (λ (ss : List (Vec Followed)). AreTold c.args.tables.now c.args.list.now ss) (sym c.deref.ensures.value)

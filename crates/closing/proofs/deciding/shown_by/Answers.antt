@@ -1,4 +1,4 @@
-use Rattle.std.proofs.Common.{◌≡◌, List, Option, IfSome, subst}
+use Rattle.std.proofs.Common.{Option, IfSome, subst}
 use Rattle.std.specs.Global.{Vec}
 use Rattle.closing.specs.declared.following.Followed.{Followed}
 use Rattle.closing.specs.inner.Told.{Keeps}

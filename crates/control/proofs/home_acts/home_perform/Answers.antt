@@ -1,7 +1,8 @@
 use Rattle.std.proofs.Common.{◌≡◌, ◌∙◌, ℕ, ap, length}
 use Rattle.network.specs.Traffic.{Traffic}
 use Rattle.network.proofs.Sending.{links-all_sent}
-use Rattle.control.specs.HomeEffect.{home_messages, IsBelow, NamesBelow}
+use Rattle.control.specs.HomeEffect.{home_messages}
+use Rattle.control.specs.Homes.{IsBelow, NamesBelow}
 use Rattle.control.proofs.home_acts.home_perform.Goals as goal
 
 pub returns-clause-links : goal.returns-clause-links

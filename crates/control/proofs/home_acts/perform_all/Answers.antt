@@ -6,8 +6,9 @@ use Rattle.network.specs.Room.{HasRoomFor}
 use Rattle.network.proofs.Sending.{all_marks_added-append, all_sent-append, room-front, room-left, links-all_sent}
 use Rattle.directory_table.specs.declared.actions.DirectoryAction.{DirectoryAction}
 use Rattle.directory_table.specs.declared.actions.DirectoryAction.TheVariants.{DataReq}
-use Rattle.block_home.specs.declared.home.Home.{Home}
-use Rattle.control.specs.HomeEffect.{home_message, home_messages, home_moved, home_changed, NamesBelow}
+use Rattle.control.specs.declared.home.Home.{Home}
+use Rattle.control.specs.HomeEffect.{home_message, home_messages, home_moved, home_changed}
+use Rattle.control.specs.Homes.{NamesBelow}
 use Rattle.control.proofs.HomeSends.{moved-front, messages-front, Keeps, keeps-changed}
 use Rattle.control.proofs.home_acts.perform_all.Goals as goal
 

@@ -2,7 +2,8 @@ use Rattle.std.proofs.Common.{◌≡◌, ℕ, drop, length}
 use Rattle.network.specs.Marks.{all_marks_added}
 use Rattle.network.specs.Traffic.{all_sent}
 use Rattle.network.specs.Room.{HasRoomFor}
-use Rattle.control.specs.HomeEffect.{home_messages, home_moved, IsBelow, NamesBelow}
+use Rattle.control.specs.HomeEffect.{home_messages, home_moved}
+use Rattle.control.specs.Homes.{IsBelow, NamesBelow}
 use Rattle.control.proofs.home_acts.perform_all.Given as goal
 
 abbrev pub invariant-loop-action : goal.invariant-loop-action

@@ -1,5 +1,5 @@
 use Rattle.std.proofs.Common.{◌≡◌, ◌≤◌, ◌+◌, drop}
-use Rattle.control.specs.inner.Counting.{forwards_by, forwards_to}
+use Rattle.control.specs.inner.HomeCounting.{forwards_by, forwards_to}
 use Rattle.control.proofs.home_counts.forwards_to.Given as goal
 
 abbrev pub invariant-loop-action : goal.invariant-loop-action

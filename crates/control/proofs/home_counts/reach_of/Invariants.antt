@@ -1,5 +1,5 @@
 use Rattle.std.proofs.Common.{◌≡◌, ◌≤◌, ◌+◌, ◌||◌, drop}
-use Rattle.control.specs.inner.Counting.{invalidates, reaches_owner, reaches_sender, replies_by}
+use Rattle.control.specs.inner.HomeCounting.{invalidates, reaches_owner, reaches_sender, replies_by}
 use Rattle.control.proofs.home_counts.reach_of.Given as goal
 
 abbrev pub invariant-loop-action : goal.invariant-loop-action

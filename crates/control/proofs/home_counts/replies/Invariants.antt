@@ -1,5 +1,5 @@
 use Rattle.std.proofs.Common.{◌≡◌, ◌≤◌, ◌+◌, drop}
-use Rattle.control.specs.inner.Counting.{replies_by}
+use Rattle.control.specs.inner.HomeCounting.{replies_by}
 use Rattle.control.proofs.home_counts.replies.Given as goal
 
 abbrev pub invariant-loop-action : goal.invariant-loop-action

@@ -1,5 +1,5 @@
 use Rattle.std.proofs.Common.{◌≡◌, ◌≤◌, ◌*◌, length}
-use Rattle.control.specs.inner.Counting.{links_below}
+use Rattle.control.specs.inner.HomeCounting.{links_below}
 use Rattle.control.proofs.home_links.count_links.Given as goal
 
 abbrev pub invariant-loop-number : goal.invariant-loop-number

@@ -1,7 +1,7 @@
 use Rattle.std.proofs.Common.{◌≡◌, ℕ, ap, append_assoc, arith, length, Option}
 use Rattle.std.proofs.lemmas.List.{length-append}
 use Rattle.base.specs.declared.ids.CacheId.{CacheId}
-use Rattle.control.specs.inner.Counting.{links_below, links_to_any}
+use Rattle.control.specs.inner.HomeCounting.{links_below, links_to_any}
 use Rattle.control.proofs.HomeLinks.{below-more, below-within, length-links_of}
 use Rattle.control.proofs.home_links.fill.Goals as goal
 

@@ -1,5 +1,5 @@
 use Rattle.std.proofs.Common.{◌≡◌, ◌≤◌, length, vec_capacity}
-use Rattle.control.specs.inner.Counting.{links_below, links_of}
+use Rattle.control.specs.inner.HomeCounting.{links_below, links_of}
 use Rattle.control.proofs.home_links.fill.Given as goal
 
 abbrev pub invariant-loop-number : goal.invariant-loop-number

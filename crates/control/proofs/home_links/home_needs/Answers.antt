@@ -1,7 +1,7 @@
 use Rattle.std.proofs.Common.{◌≡◌, ◌≤◌, ◌∙◌, ap, arith, sym, length, vec_capacity, Some, true, false}
 use Rattle.network.specs.Room.{requests_in, responses_in, forwards_in}
 use Rattle.control.specs.HomeEffect.{value_in}
-use Rattle.control.specs.inner.Counting.{replies_by, links_of}
+use Rattle.control.specs.inner.HomeCounting.{replies_by, links_of}
 use Rattle.control.proofs.HomeCounts.{nothing-sent, requests-by, responses-by}
 use Rattle.control.proofs.HomeLinks.{listed-all, listed-below, listed-count}
 use Rattle.control.proofs.home_links.home_needs.Goals as goal

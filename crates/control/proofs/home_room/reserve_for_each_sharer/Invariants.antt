@@ -1,8 +1,8 @@
 use Rattle.std.proofs.Common.{◌≡◌, ◌≢◌, ◌≤◌, ◌<◌, ◌-◌, ℕ, [], false, true, length}
 use Rattle.network.specs.Room.{UsesRoomFor}
-use Rattle.control.specs.Events.{owns}
+use Rattle.control.specs.HomeEvents.{owns}
 use Rattle.control.specs.Sharing.{shares}
-use Rattle.control.specs.inner.Counting.{HasRoomOnLink}
+use Rattle.control.specs.inner.HomeCounting.{HasRoomOnLink}
 use Rattle.control.proofs.home_room.reserve_for_each_sharer.Given as goal
 
 abbrev pub invariant-loop-next : goal.invariant-loop-next

@@ -2,7 +2,7 @@ use Rattle.std.proofs.lemmas.Grind.{common_steps}
 use Rattle.std.proofs.Common.{◌≡◌, ap, sym, ◌∙◌, subst, arith, None, length, get_or, rules}
 use Rattle.std.proofs.lemmas.List.Elements.{All-same, All-weaker}
 use Rattle.once_cell.specs.Once.{cell_name}
-use Rattle.desk.specs.Seats.{SeatView}
+use Rattle.desk.specs.Seats.{DeskSeatView}
 use Rattle.desk.specs.Closing.{IsPlace}
 use Rattle.desk.proofs.Lists.{long_as, restored, item_at, put_back_same}
 use Rattle.desk.proofs.Collecting.{place_more, place_all}
@@ -12,7 +12,7 @@ pub loop-seat-preserved : goal.loop-seat-preserved
 loop-seat-preserved g c =
     let i = c.loop-seat.invariant in
     let cells = long_as cell_name c.desk.inside.cells.items c.args.desk.id.cells (ap (λ d. d.id.cells) c.desk.view_is) in
-    let s : SeatView = get_or c.loop-seat.seat-items c.loop-seat.seat-index c.seat-item.result in
+    let s : DeskSeatView = get_or c.loop-seat.seat-items c.loop-seat.seat-index c.seat-item.result in
     let at = item_at c.loop-seat.seat-items c.deref_mut-seat-items.result.now c.loop-seat.seat-index c.seat-item.result i.seats (search rules) in
     record {
       seats = put_back_same c.loop-seat.seat-items c.deref_mut-seat-items.result.now c.loop-seat.seat-index c.seat-item.result c.collect.new.seat
@@ -29,8 +29,8 @@ settle-requires-clause-these g c =
     let cells = long_as cell_name d.cells.items c.args.desk.id.cells (ap (λ x. x.id.cells) c.desk.view_is) in
     let back = restored c.loop-seat.seat-items c.args.seats.items c.args.seats.len
     (c.loop-seat.invariant.seats ∙ c.deref_mut-seat-items.ensures.value) (omega (arith, c.args.seats.ok.0)) in
-    All-same (λ (s : SeatView). (s.desk.table ≡ d.word.shared.table_id) × (length s.desk.cells ≡ d.word.shared.key.count)) _ c.args.seats.items back
-    (All-weaker (λ (s : SeatView). s.desk ≡ c.args.desk.id) (λ (s : SeatView). (s.desk.table ≡ d.word.shared.table_id) ×
+    All-same (λ (s : DeskSeatView). (s.desk.table ≡ d.word.shared.table_id) × (length s.desk.cells ≡ d.word.shared.key.count)) _ c.args.seats.items back
+    (All-weaker (λ (s : DeskSeatView). s.desk ≡ c.args.desk.id) (λ (s : DeskSeatView). (s.desk.table ≡ d.word.shared.table_id) ×
     (length s.desk.cells ≡ d.word.shared.key.count))
     (λ s e. (
       ap (λ x. x.table) e ∙ sym (ap (λ x. x.id.table) c.desk.view_is),

@@ -2,7 +2,7 @@ use Rattle.std.proofs.Common.{◌≡◌, ◌||◌, ◌∷◌, [], ap, sym, ◌�
 use Rattle.std.proofs.lemmas.Grind.{common_steps}
 use Rattle.std.proofs.lemmas.List.Elements.{All-pop}
 use Rattle.desk.specs.Counting.{times}
-use Rattle.desk.specs.Seats.{SeatView}
+use Rattle.desk.specs.Seats.{DeskSeatView}
 use Rattle.desk.specs.Closing.{claims_of, any_told}
 use Rattle.desk.proofs.Drawing.{times-append}
 use Rattle.desk.proofs.Collecting.{claims_of-push, told_moves}
@@ -10,11 +10,11 @@ use Rattle.desk.proofs.closing.settle.Goals as goal
 
 pub loop-seat-init : goal.loop-seat-init
 loop-seat-init g c =
-    let s : SeatView = c.in-Some.seat in
+    let s : DeskSeatView = c.in-Some.seat in
     let rest = c.pop.new.self.items in
     let e = c.in-Some.ensures.items in
     let t = c.into_token-token.ensures in
-    let p = All-pop (λ (v : SeatView). (v.desk.table ≡ c.args.word.now.shared.table_id) × (length v.desk.cells ≡ c.args.word.now.shared.key.count))
+    let p = All-pop (λ (v : DeskSeatView). (v.desk.table ≡ c.args.word.now.shared.table_id) × (length v.desk.cells ≡ c.args.word.now.shared.key.count))
     c.args.seats.items rest (Some s) e c.requires.these in
     record {
       table = t.table ∙ p.1.0;
@@ -29,20 +29,20 @@ loop-seat-init g c =
 pub merge_token-requires-clause-other : goal.merge_token-requires-clause-other
 merge_token-requires-clause-other g c =
     let t = c.into_token-other.ensures in
-    let p = All-pop (λ (v : SeatView). (v.desk.table ≡ c.args.word.now.shared.table_id) × (length v.desk.cells ≡ c.args.word.now.shared.key.count))
+    let p = All-pop (λ (v : DeskSeatView). (v.desk.table ≡ c.args.word.now.shared.table_id) × (length v.desk.cells ≡ c.args.word.now.shared.key.count))
     c.loop-seat.seats.items c.pop-in-loop-seat.new.self.items (Some c.in-Some-pop.seat) c.in-Some-pop.ensures.items c.loop-seat.invariant.these in
     (t.table ∙ p.1.0, ap (λ m. m.1) t.me)
 
 pub loop-seat-preserved : goal.loop-seat-preserved
 loop-seat-preserved g c =
     let i = c.loop-seat.invariant in
-    let s : SeatView = c.in-Some-pop.seat in
+    let s : DeskSeatView = c.in-Some-pop.seat in
     let rest = c.pop-in-loop-seat.new.self.items in
     let e = c.in-Some-pop.ensures.items in
     let t = c.into_token-other.ensures in
     let m = c.merge_token.ensures in
     let old = c.loop-seat.token.me.0 in
-    let p = All-pop (λ (v : SeatView). (v.desk.table ≡ c.args.word.now.shared.table_id) × (length v.desk.cells ≡ c.args.word.now.shared.key.count))
+    let p = All-pop (λ (v : DeskSeatView). (v.desk.table ≡ c.args.word.now.shared.table_id) × (length v.desk.cells ≡ c.args.word.now.shared.key.count))
     c.loop-seat.seats.items rest (Some s) e i.these in
     record {
       table = m.1 ∙ i.table;

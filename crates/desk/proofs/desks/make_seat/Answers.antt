@@ -1,8 +1,8 @@
 use Rattle.std.proofs.Common.{◌≡◌, ap, ◌∙◌, sym, subst, arith, length, map, replicate, None, false}
 use Rattle.std.proofs.lemmas.List.{length-map}
 use Rattle.once_cell.specs.Once.{cell_name}
-use Rattle.desk.specs.declared.seats.Stage.TheVariants.{Free}
-use Rattle.desk.specs.inner.Keeping.{IsSeat, is_claimed, is_posted}
+use Rattle.desk.specs.declared.seats.NumberStage.TheVariants.{Free}
+use Rattle.desk.specs.inner.Keeping.{IsDeskSeat, is_claimed, is_posted}
 use Rattle.desk.proofs.Lists.{as_long}
 use Rattle.desk.proofs.Seating.{new_kept, new_seen}
 use Rattle.desk.proofs.desks.make_seat.Goals as goal
@@ -14,7 +14,7 @@ invariant_of-result g c =
     let cells = c.args.cells.now in
     let count : c.len.result ≡ length cells.items = omega (arith, c.len.ensures, cells.ok.0) in
     let long : length notes ≡ length cells.items = as_long (λ n. n.cell) cell_name notes cells.items c.in_ok-notes.ensures.cells in
-    subst (λ n. IsSeat c.args.token.me n false (map is_claimed stages) (map is_posted stages) (map (λ n. n.known) notes)) (sym long)
+    subst (λ n. IsDeskSeat c.args.token.me n false (map is_claimed stages) (map is_posted stages) (map (λ n. n.known) notes)) (sym long)
     (new_kept c.args.token.me (length cells.items) stages (map (λ n. n.known) notes) c.requires
     (c.in_ok-stages.ensures ∙ ap (λ n. replicate n Free) count) c.in_ok-notes.ensures.known)
 

@@ -1,6 +1,6 @@
 use Rattle.std.proofs.Common.{◌≡◌, List, [], subst, sym, append-nil, length, refl, arith, ◌∷◌, rules}
 use Rattle.std.proofs.lemmas.Grind.{common_steps}
-use Rattle.hall.specs.Turning.{SeatView}
+use Rattle.floor.specs.Turning.{SeatView}
 use Rattle.floor.specs.Crews.{ComeBack}
 use Rattle.floor.proofs.crews.finish_all.Goals as goal
 

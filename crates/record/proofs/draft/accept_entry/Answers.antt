@@ -1,5 +1,5 @@
 use Rattle.std.proofs.Common.{◌++◌, ◌∷◌, [], refl}
-use Rattle.base.specs.Spelling.{words}
+use Rattle.base.specs.Words.{words}
 use Rattle.record.specs.View.{owner_list}
 use Rattle.record.specs.inner.Drafts.{recorded}
 use Rattle.record.proofs.Drafting.{entry-taken}

@@ -1,5 +1,6 @@
-use Rattle.std.proofs.Common.{◌≡◌, true, false, ◌∙◌, sym, arith, ap}
-use Rattle.both_tables.specs.CellPlaces.{place_number}
+use Rattle.std.proofs.Common.{◌≡◌, ◌≤◌, true, false, ◌∙◌, sym, arith, ap}
+use Rattle.tables.specs.CellPlaces.{place_number}
+use Rattle.tables.specs.Tables.{baseline_of}
 use Rattle.record_lines.specs.Cells.{cell_at, is_same, place_of}
 use Rattle.record_lines.proofs.Alike.{in-order, differs, known}
 use Rattle.record.proofs.reading.listed_cell.Goals as goal
@@ -8,7 +9,10 @@ pub returns-then-is_in : goal.returns-then-is_in
 returns-then-is_in c = λ other listed spelled.
     let same = sym c.in_ok-cell.ensures.cell ∙ spelled in
     let no = differs c.args.protocol c.args.from c.in_ok-cell.cell other same listed in
-    let own = ap (λ t. is_same c.in_ok-cell.cell (cell_at t (place_of c.in_ok-cell.cell))) c.baseline_of.ensures in
+    let place = place_of c.in_ok-cell.cell in
+    let high : c.args.from ≤ place_number place = omega (arith, c.number.ensures.number, c.if-number-from.false, ap place_number c.place.ensures) in
+    let own =
+    ap (is_same c.in_ok-cell.cell) (c.requires.own place high ∙ ap (λ p. cell_at (baseline_of p) place) c.requires.protocol) in
     let it : true ≡ false = sym c.if-is_in.true ∙ c.is_in.ensures.same ∙ own ∙ no in
     absurd (cc it)
 

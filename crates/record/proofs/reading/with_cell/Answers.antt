@@ -1,6 +1,6 @@
 use Rattle.std.proofs.Common.{◌≡◌, true, ap, sym, subst, ◌∙◌, rules}
-use Rattle.both_tables.specs.Tables.{Tables}
-use Rattle.both_tables.specs.declared.cell_places.CellPlace.TheVariants as place
+use Rattle.tables.specs.Tables.{Tables}
+use Rattle.tables.specs.declared.cell_places.CellPlace.TheVariants as place
 use Rattle.cache_table.specs.Keeping as cache_keeping
 use Rattle.cache_table.specs.Table as cache_table
 use Rattle.directory_table.specs.Keeping as directory_keeping
@@ -60,21 +60,21 @@ returns-in-Directory-clause-protocol c = ap (λ (t : Tables). t.protocol) c.tabl
 
 pub returns-in-Cache-clause-whole : goal.returns-in-Cache-clause-whole
 returns-in-Cache-clause-whole c whole fits =
-    let cache = subst (λ (t : Tables). cache_keeping.IsTable t.protocol t.cache) (sym c.tables.view_is) whole.cache in
-    let directory = subst (λ (t : Tables). directory_keeping.IsTable t.protocol t.directory) (sym c.tables.view_is) whole.directory in
+    let cache = subst (λ (t : Tables). cache_keeping.IsCacheTable t.protocol t.cache) (sym c.tables.view_is) whole.cache in
+    let directory = subst (λ (t : Tables). directory_keeping.IsDirectoryTable t.protocol t.directory) (sym c.tables.view_is) whole.directory in
     whole-more c.args.tables _ c.args.cell.now (returns-in-Cache-clause-here c) (returns-in-Cache-clause-others c)
     (cache-more c.tables.inside.cache c.with-tables-inside.result c.in-Cache.state c.in-Cache.event c.in-Cache.entry
     c.with-tables-inside.ensures.table cache)
-    (subst (λ p. directory_keeping.IsTable p c.tables.inside.directory.cells) (sym c.with-tables-inside.ensures.protocol) directory) whole fits
+    (subst (λ p. directory_keeping.IsDirectoryTable p c.tables.inside.directory.cells) (sym c.with-tables-inside.ensures.protocol) directory) whole fits
 
 pub returns-in-Directory-clause-whole : goal.returns-in-Directory-clause-whole
 returns-in-Directory-clause-whole c whole fits =
-    let cache = subst (λ (t : Tables). cache_keeping.IsTable t.protocol t.cache) (sym c.tables.view_is) whole.cache in
-    let directory = subst (λ (t : Tables). directory_keeping.IsTable t.protocol t.directory) (sym c.tables.view_is) whole.directory in
+    let cache = subst (λ (t : Tables). cache_keeping.IsCacheTable t.protocol t.cache) (sym c.tables.view_is) whole.cache in
+    let directory = subst (λ (t : Tables). directory_keeping.IsDirectoryTable t.protocol t.directory) (sym c.tables.view_is) whole.directory in
     let made =
     directory-more c.tables.inside.directory c.with-tables-inside-in-Directory.result c.in-Directory.state c.in-Directory.event c.in-Directory.entry
     c.with-tables-inside-in-Directory.ensures.table
-    (subst (λ p. directory_keeping.IsTable p c.tables.inside.directory.cells) c.tables.invariant directory) in
+    (subst (λ p. directory_keeping.IsDirectoryTable p c.tables.inside.directory.cells) c.tables.invariant directory) in
     whole-more c.args.tables _ c.args.cell.now (returns-in-Directory-clause-here c) (returns-in-Directory-clause-others c) cache
-    (subst (λ p. directory_keeping.IsTable p c.with-tables-inside-in-Directory.result.cells)
+    (subst (λ p. directory_keeping.IsDirectoryTable p c.with-tables-inside-in-Directory.result.cells)
     (c.with-tables-inside-in-Directory.ensures.protocol ∙ sym c.tables.invariant) made) whole fits

@@ -1,6 +1,6 @@
 use Rattle.std.proofs.Common.{◌∙◌, ap, sym, arith, true, false}
 use Rattle.std.proofs.lemmas.Option.{get_or_from_slice_get}
-use Rattle.both_tables.specs.CellPlaces.{all_places}
+use Rattle.tables.specs.CellPlaces.{all_places}
 use Rattle.record.specs.Text.{is_changed}
 use Rattle.record.proofs.Changed.{count-more}
 use Rattle.record.proofs.Standing.{all-stand, stand-more}

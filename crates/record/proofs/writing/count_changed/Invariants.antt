@@ -1,5 +1,5 @@
 use Rattle.std.proofs.Common.{◌≡◌, ◌≤◌, length, take}
-use Rattle.both_tables.specs.CellPlaces.{all_places}
+use Rattle.tables.specs.CellPlaces.{all_places}
 use Rattle.record.specs.Text.{changed}
 use Rattle.record.proofs.Standing.{StandBefore}
 use Rattle.record.proofs.writing.count_changed.Given as goal

@@ -1,5 +1,5 @@
 use Rattle.std.proofs.Common.{rules}
-use Rattle.base.specs.Spelling.{words}
+use Rattle.base.specs.Words.{words}
 use Rattle.record_lines.proofs.Splitting.{bad-outcome}
 use Rattle.record_lines.proofs.parsing.entry_of.Goals as goal
 

@@ -1,5 +1,5 @@
 use Rattle.std.proofs.Common.{◌≡◌, codes, ap, rules}
-use Rattle.base.specs.Spelling.{words}
+use Rattle.base.specs.Words.{words}
 use Rattle.record_lines.specs.Text.{header_words}
 use Rattle.record_lines.specs.declared.version.Version.TheVariants.{Two}
 use Rattle.record_lines.proofs.Words.{spelled-text}

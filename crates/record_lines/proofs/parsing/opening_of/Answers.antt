@@ -1,8 +1,7 @@
 use Rattle.std.proofs.Common.{◌≡◌, ◌++◌, ◌∙◌, ap, rules, arith}
 use Rattle.std.proofs.lemmas.Grind.{common_steps}
-use Rattle.base.specs.Spelling.{words}
+use Rattle.base.specs.Words.{words, words_behind}
 use Rattle.record_lines.specs.Text.{opening_words}
-use Rattle.base.specs.inner.Behind.{words_behind}
 use Rattle.base.proofs.Spelled.{cut-words}
 use Rattle.record_lines.proofs.Openings.{many-values, no-value}
 use Rattle.record_lines.proofs.parsing.opening_of.Goals as goal

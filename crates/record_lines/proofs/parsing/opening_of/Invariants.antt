@@ -1,9 +1,8 @@
 use Rattle.std.proofs.Common.{◌≡◌, ◌≤◌, ◌-◌, ◌++◌, ◌<◌, ◌^◌, length}
 use Rattle.std.specs.Prelude.{All}
 use Rattle.std.specs.Vec.{vec_capacity}
-use Rattle.base.specs.Spelling.{words}
+use Rattle.base.specs.Words.{words, words_behind}
 use Rattle.record_lines.specs.Text.{opening_words}
-use Rattle.base.specs.inner.Behind.{words_behind}
 use Rattle.record_lines.proofs.parsing.opening_of.Given as goal
 
 abbrev pub invariant-loop-rest : goal.invariant-loop-rest

@@ -1,5 +1,5 @@
 use Rattle.std.proofs.Common.{arith, ap, length, get_or, List, ℕ}
-use Rattle.base.specs.Spelling.{words}
+use Rattle.base.specs.Words.{words}
 use Rattle.record_lines.proofs.Splitting.{no-sign}
 use Rattle.record_lines.proofs.parsing.step_at_front.Goals.{then-rest-lt2-via-then-rest-lt2, then-rest-lt2-via-else-rest-lt2+then-rest-ne61}
 use Rattle.record_lines.proofs.parsing.step_at_front.Goals.{then-rest-lt2-via-else-rest-lt2+else-rest-ne61+then-rest-ne32}

@@ -1,8 +1,8 @@
 use Rattle.std.proofs.Common.{◌≡◌, ℕ, List, Option, None, Result, Ok, Err}
 use Rattle.std.specs.Prelude.{◌↔◌, IfOk}
 use Rattle.machine.specs.Coherence.{Safe}
-use Rattle.violations.specs.declared.violation.Violation.{Violation}
-use Rattle.violations.specs.Violations.{AnswersFirst}
+use Rattle.monitor.specs.declared.violation.Violation.{Violation}
+use Rattle.monitor.specs.Violations.{AnswersFirst}
 use Rattle.world.specs.View.{View}
 use Rattle.record.specs.View.{RecordingView, steps_of}
 use Rattle.replays.specs.declared.replaying.ReplayFault.{ReplayFault}

@@ -1,6 +1,5 @@
 use Rattle.std.proofs.Common.{◌≡◌, ◌++◌, ◌∙◌, ap, sym, map, rules}
-use Rattle.base.specs.Spelling.{words}
-use Rattle.base.specs.inner.Behind.{words_behind}
+use Rattle.base.specs.Words.{words, words_behind}
 use Rattle.base.proofs.Spelled.{cut-words}
 use Rattle.base.proofs.Spelled.{no-name, more-words}
 use Rattle.base.proofs.controller.spelling.actions_of.Goals as goal

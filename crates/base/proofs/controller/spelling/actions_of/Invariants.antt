@@ -1,5 +1,5 @@
 use Rattle.std.proofs.Common.{◌≡◌, ◌≤◌, ◌-◌, ◌++◌, length, map}
-use Rattle.base.specs.inner.Behind.{words_behind}
+use Rattle.base.specs.Words.{words_behind}
 use Rattle.base.proofs.controller.spelling.actions_of.Given as goal
 
 abbrev pub invariant-loop-rest : goal.invariant-loop-rest

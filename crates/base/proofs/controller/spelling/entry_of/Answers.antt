@@ -1,5 +1,5 @@
 use Rattle.std.proofs.Common.{arith}
-use Rattle.words.proofs.Lines.{not_one}
+use Rattle.base.proofs.Lines.{not_one}
 use Rattle.base.proofs.controller.spelling.entry_of.Goals as goal
 
 pub returns-in_default-clause-fits : goal.returns-in_default-clause-fits

@@ -1,5 +1,5 @@
 use Rattle.std.proofs.Common.{◌≡◌, ◌≤◌, ◌+◌, ◌*◌, ◌++◌, length, map, take}
-use Rattle.base.specs.Spelling.{spaced}
+use Rattle.base.specs.Words.{spaced}
 use Rattle.base.proofs.controller.spelling.push_actions.Given as goal
 
 abbrev pub invariant-loop-action : goal.invariant-loop-action

@@ -1,6 +1,7 @@
 use Rattle.std.proofs.Common.{[], sym, ◌∙◌}
 use Rattle.std.proofs.lemmas.List.{append-nil}
-use Rattle.base.specs.Spelling.{words, step_words}
+use Rattle.base.specs.Words.{words}
+use Rattle.base.specs.Spelling.{step_words}
 use Rattle.base.proofs.Spellings.{more_than_step}
 use Rattle.base.proofs.step.Step.read.Goals as goal
 

@@ -1,6 +1,6 @@
 use Rattle.std.proofs.Common.{take, refl, rules}
-use Rattle.words.proofs.Fronts.{number-ahead}
-use Rattle.words.proofs.Numbers.{is-number}
+use Rattle.base.proofs.Fronts.{number-ahead}
+use Rattle.base.proofs.Numbers.{is-number}
 use Rattle.base.proofs.text.ahead.digits_ahead.Goals as goal
 
 pub returns : goal.returns

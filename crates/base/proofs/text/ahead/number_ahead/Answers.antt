@@ -1,5 +1,5 @@
 use Rattle.std.proofs.Common.{rules}
-use Rattle.words.proofs.Fronts.{digit-ahead}
+use Rattle.base.proofs.Fronts.{digit-ahead}
 use Rattle.base.proofs.text.ahead.number_ahead.Goals as goal
 
 pub returns-in_ok-digit_of-in-len2-up : goal.returns-in_ok-digit_of-in-len2-up

@@ -1,7 +1,6 @@
 use Rattle.std.proofs.Common.{◌≡◌, ◌∷◌, List, ℕ, ap, ◌∙◌}
 use Rattle.std.specs.Fmt.{decimal}
-use Rattle.base.specs.Spelling.{words}
-use Rattle.base.specs.inner.Behind.{words_behind}
+use Rattle.base.specs.Words.{words, words_behind}
 use Rattle.base.proofs.Spellings.{no_ask}
 use Rattle.base.proofs.text.steps.ask_in_front.Goals as goal
 

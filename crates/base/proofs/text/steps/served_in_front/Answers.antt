@@ -1,7 +1,6 @@
 use Rattle.std.proofs.Common.{rules, ◌≡◌, ◌∷◌, List, ℕ, ap, ◌∙◌}
 use Rattle.std.specs.Fmt.{decimal}
-use Rattle.base.specs.Spelling.{words}
-use Rattle.base.specs.inner.Behind.{words_behind}
+use Rattle.base.specs.Words.{words, words_behind}
 use Rattle.base.proofs.Spellings.{no_cache, no_number}
 use Rattle.base.proofs.text.steps.served_in_front.Goals as goal
 

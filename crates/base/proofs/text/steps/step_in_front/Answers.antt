@@ -1,4 +1,4 @@
-use Rattle.base.specs.Spelling.{words}
+use Rattle.base.specs.Words.{words}
 use Rattle.base.proofs.Spellings.{no_step}
 use Rattle.base.proofs.text.steps.step_in_front.Goals as goal
 

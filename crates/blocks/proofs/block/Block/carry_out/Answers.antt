@@ -3,7 +3,8 @@ use Rattle.std.proofs.lemmas.Grind.{common_steps}
 use Rattle.network.specs.Traffic.{Traffic, all_sent}
 use Rattle.blocks.proofs.Relinking.{messages-links}
 use Rattle.control.specs.LineEffect.{is_reader, is_writer, line_after, line_sends, requestor_of}
-use Rattle.control.specs.HomeEffect.{home_sends, sender_of, IsBelow}
+use Rattle.control.specs.HomeEffect.{home_sends, sender_of}
+use Rattle.control.specs.Homes.{IsBelow}
 use Rattle.machine.specs.Block.{BlockState}
 use Rattle.blocks.specs.View.{BlockView}
 use Rattle.blocks.specs.inner.Lined.{IsHeld, kept_lines, lines_of}

@@ -1,6 +1,6 @@
 use Rattle.std.proofs.Common.{◌≡◌, ◌∙◌, Bool, ap, slice_get, sym}
-use Rattle.both_tables.specs.Tables.{Tables}
-use Rattle.cache_line.specs.declared.line.LineInput.TheVariants as line_input
+use Rattle.tables.specs.Tables.{Tables}
+use Rattle.control.specs.declared.line.LineInput.TheVariants as line_input
 use Rattle.network.specs.Marking.{link_marked}
 use Rattle.network.specs.Room.{Wiring}
 use Rattle.network.specs.declared.message.Forward.{Forward}

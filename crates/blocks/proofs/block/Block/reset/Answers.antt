@@ -1,6 +1,6 @@
 use Rattle.std.proofs.Common.{◌≡◌, ◌∙◌, None, ap, false, length, refl, replicate, sym}
 use Rattle.std.proofs.lemmas.List.{length-map}
-use Rattle.control.specs.HomeEffect.{opened_home}
+use Rattle.control.specs.Homes.{opened_home}
 use Rattle.network.specs.Traffic.{quiet}
 use Rattle.blocks.specs.inner.Lined.{lines_of}
 use Rattle.blocks.proofs.Opening.{held-opened, lines-opened, none-kept}

@@ -1,5 +1,5 @@
 use Rattle.std.proofs.Common.{List, Option, ap, ℕ, refl}
-use Rattle.cache_line.specs.declared.line.Line.{Line}
+use Rattle.control.specs.declared.line.Line.{Line}
 use Rattle.blocks.proofs.Copying.{lines-copied}
 use Rattle.blocks.proofs.block.BlockTryClone.try_clone.Goals as goal
 

@@ -1,6 +1,6 @@
 use Rattle.std.proofs.Common.{◌++◌, ◌∙◌, ap, drop, map, take}
-use Rattle.both_tables.specs.Tables.{Tables}
-use Rattle.block_home.specs.declared.home.HomeInput.TheVariants as home_input
+use Rattle.tables.specs.Tables.{Tables}
+use Rattle.control.specs.declared.home.HomeInput.TheVariants as home_input
 use Rattle.network.specs.Room.{Wiring}
 use Rattle.network.specs.declared.message.Request.{Request}
 use Rattle.blocks.specs.Marking.{home_stalls}

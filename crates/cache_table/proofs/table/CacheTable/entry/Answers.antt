@@ -1,8 +1,8 @@
 use Rattle.std.proofs.Common.{subst}
-use Rattle.base.specs.declared.controller.entry.Entry.TheVariants.{Blank}
+use Rattle.base.specs.declared.controller.entry.CellEntry.TheVariants.{Blank}
 use Rattle.base.proofs.Cells.{cell-default}
-use Rattle.cache_table.specs.Keeping.{IsTable}
-use Rattle.cache_table.specs.Table.{Table, IsWhole}
+use Rattle.cache_table.specs.Keeping.{IsCacheTable}
+use Rattle.cache_table.specs.Table.{CacheTableView, IsWhole}
 use Rattle.cache_table.proofs.table.CacheTable.entry.Goals as goal
 
 pub returns-clause-entry : goal.returns-clause-entry
@@ -12,7 +12,7 @@ returns-clause-entry c =
     c.self.invariant.whole c.number.ensures.small c.number-2.ensures.small)
 
 pub returns-clause-table : goal.returns-clause-table
-returns-clause-table c = subst (λ (t : Table). IsTable t.protocol t.cells) c.self.view_is c.self.invariant
+returns-clause-table c = subst (λ (t : CacheTableView). IsCacheTable t.protocol t.cells) c.self.view_is c.self.invariant
 
 pub returns-clause-whole : goal.returns-clause-whole
-returns-clause-whole c = subst (λ (t : Table). IsWhole t.cells) c.self.view_is c.self.invariant.whole
+returns-clause-whole c = subst (λ (t : CacheTableView). IsWhole t.cells) c.self.view_is c.self.invariant.whole

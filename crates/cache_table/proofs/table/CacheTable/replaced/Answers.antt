@@ -1,14 +1,14 @@
 use Rattle.std.proofs.Common.{◌≡◌, true, subst, sym}
 use Rattle.base.proofs.Cells.{HasSize-set, replaced-other}
 use Rattle.cache_table.specs.Baseline.{all_states, all_events}
-use Rattle.cache_table.specs.Table.{Table, state_number, event_number, has_cell}
+use Rattle.cache_table.specs.Table.{CacheTableView, state_number, event_number, has_cell}
 use Rattle.cache_table.specs.inner.Standing.{state_stands, event_stands}
 use Rattle.cache_table.proofs.Keeping.{keeps-replaced}
 use Rattle.cache_table.proofs.table.CacheTable.replaced.Goals as goal
 
 pub invariant_of-result : goal.invariant_of-result
 invariant_of-result c =
-    let known = subst (λ (t : Table). has_cell t.protocol c.args.state c.args.event c.args.entry ≡ true) (sym c.self.view_is) c.requires in
+    let known = subst (λ (t : CacheTableView). has_cell t.protocol c.args.state c.args.event c.args.entry ≡ true) (sym c.self.view_is) c.requires in
     record {
       whole = HasSize-set 12 13 c.self.inside.cells c.number.result c.number-2.result c.args.entry c.self.invariant.whole c.number.ensures.small;
       keeps =

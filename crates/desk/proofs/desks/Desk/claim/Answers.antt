@@ -1,7 +1,7 @@
 use Rattle.std.proofs.lemmas.Grind.{common_steps}
 use Rattle.std.proofs.Common.{rules, ap, ◌∙◌, sym, arith, length, map, false, get_or, slice_set}
 use Rattle.once_cell.specs.Once.{cell_name}
-use Rattle.desk.specs.declared.seats.Stage.TheVariants.{Claimed}
+use Rattle.desk.specs.declared.seats.NumberStage.TheVariants.{Claimed}
 use Rattle.desk.specs.inner.Keeping.{is_claimed, is_posted}
 use Rattle.desk.proofs.Lists.{as_long, long_as}
 use Rattle.desk.proofs.Seating.{claimed_kept, claim_seen, posts_claimed, unposted}

@@ -1,6 +1,6 @@
 use Rattle.std.proofs.lemmas.Grind.{common_steps}
 use Rattle.std.proofs.Common.{rules, sym, subst, length, map, arith}
-use Rattle.desk.specs.inner.Keeping.{IsSeat, is_claimed, is_posted}
+use Rattle.desk.specs.inner.Keeping.{IsDeskSeat, is_claimed, is_posted}
 use Rattle.desk.proofs.Lists.{long_same}
 use Rattle.desk.proofs.Seating.{looked_kept}
 use Rattle.desk.proofs.desks.Desk.look.Goals as goal
@@ -9,7 +9,7 @@ pub invariant_of-seat : goal.invariant_of-seat
 invariant_of-seat g c =
     let i = c.seat.inside in
     let long = long_same (λ n. n.cell) c.get_at.new.notes.items i.notes.items c.get_at.ensures.cells in
-    subst (λ n. IsSeat i.token.me n i.told (map is_claimed i.stages.items) (map is_posted i.stages.items)
+    subst (λ n. IsDeskSeat i.token.me n i.told (map is_claimed i.stages.items) (map is_posted i.stages.items)
     (map (λ n. n.known) c.get_at.new.notes.items)) (sym long)
     (looked_kept (λ r. r.now) c.get_at.result i.token.me (length i.notes.items) i.told (map is_claimed i.stages.items) (map is_posted i.stages.items)
     (map (λ n. n.known) i.notes.items) (map (λ n. n.known) c.get_at.new.notes.items) c.args.number

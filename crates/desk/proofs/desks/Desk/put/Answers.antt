@@ -2,8 +2,8 @@ use Rattle.std.proofs.lemmas.Grind.{common_steps}
 use Rattle.std.proofs.Common.{rules, ◌≡◌, ap, ◌∙◌, sym, subst, arith, length, map, ◌<◌, ℕ, List, false, true, get_or, slice_set, Some}
 use Rattle.std.proofs.lemmas.List.{get_or-set_same}
 use Rattle.desk.specs.Counting.{times}
-use Rattle.desk.specs.declared.seats.Stage.TheVariants.{Posted}
-use Rattle.desk.specs.inner.Keeping.{IsSeat, is_claimed, is_posted}
+use Rattle.desk.specs.declared.seats.NumberStage.TheVariants.{Posted}
+use Rattle.desk.specs.inner.Keeping.{IsDeskSeat, is_claimed, is_posted}
 use Rattle.desk.proofs.Lists.{long_same}
 use Rattle.desk.proofs.Seating.{posted_kept, post_seen, posts_posted, true_above}
 use Rattle.desk.proofs.desks.Desk.put.Goals as goal
@@ -16,7 +16,7 @@ invariant_of-seat-2 g c =
     let lt : k < length i.notes.items = c.seat.invariant.below k there in
     let mine : get_or (map is_claimed i.stages.items) k false ≡ true = c.seat.invariant.claims_are k lt ∙ sym (true_above _ there) in
     let long = long_same (λ n. n.cell) c.set_at.new.notes.items i.notes.items c.set_at.ensures.cells in
-    subst (λ n. IsSeat i.token.me n i.told (map is_claimed (slice_set i.stages.items k Posted)) (map is_posted (slice_set i.stages.items k Posted))
+    subst (λ n. IsDeskSeat i.token.me n i.told (map is_claimed (slice_set i.stages.items k Posted)) (map is_posted (slice_set i.stages.items k Posted))
     (map (λ n. n.known) c.set_at.new.notes.items))
     (sym long)
     (posted_kept i.token.me (length i.notes.items) i.told i.stages.items (map (λ n. n.known) i.notes.items)

@@ -1,14 +1,14 @@
 use Rattle.std.proofs.Common.{◌≡◌, true, subst, sym}
 use Rattle.base.proofs.Cells.{HasSize-set, replaced-other}
 use Rattle.directory_table.specs.Baseline.{all_states, all_events}
-use Rattle.directory_table.specs.Table.{Table, state_number, event_number, has_entry}
+use Rattle.directory_table.specs.Table.{DirectoryTableView, state_number, event_number, has_entry}
 use Rattle.directory_table.specs.inner.Standing.{state_stands, event_stands}
 use Rattle.directory_table.proofs.Keeping.{keeps-replaced}
 use Rattle.directory_table.proofs.table.DirectoryTable.replaced.Goals as goal
 
 pub invariant_of-result : goal.invariant_of-result
 invariant_of-result c =
-    let known = subst (λ (t : Table). has_entry t.protocol c.args.entry ≡ true) (sym c.self.view_is) c.requires in
+    let known = subst (λ (t : DirectoryTableView). has_entry t.protocol c.args.entry ≡ true) (sym c.self.view_is) c.requires in
     record {
       whole = HasSize-set 4 7 c.self.inside.cells c.number.result c.number-2.result c.args.entry c.self.invariant.whole c.number.ensures.small;
       keeps =

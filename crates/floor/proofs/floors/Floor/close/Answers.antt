@@ -1,6 +1,6 @@
 use Rattle.std.proofs.Common.{subst, arith}
 use Rattle.std.proofs.lemmas.Grind.{common_steps}
-use Rattle.hall.specs.Closing.{AllThere}
+use Rattle.floor.specs.Closing.{AllThere}
 use Rattle.floor.proofs.Owned.{all_stand, all_received}
 use Rattle.floor.proofs.floors.Floor.close.Goals as goal
 

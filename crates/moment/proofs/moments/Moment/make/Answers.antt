@@ -1,7 +1,7 @@
 use Rattle.std.proofs.Common.{◌≡◌, ◌<◌, refl, sym, subst, length, true}
-use Rattle.both_tables.specs.Tables.{Tables}
+use Rattle.tables.specs.Tables.{Tables}
 use Rattle.base.specs.declared.step.Step.{Step}
-use Rattle.lanes.specs.Lanes.{AreReady, Follows, laned, whole}
+use Rattle.lanes.specs.Lanes.{AreReady, FollowsStep, laned, whole}
 use Rattle.lanes.specs.Picks.{choice_of}
 use Rattle.moment.specs.Moments.{Moment}
 use Rattle.moment.specs.Seen.{Seen, choices_in}
@@ -37,8 +37,8 @@ invariant_of-self-in-Ok-follow g c usable =
       kept = c.in-Ok-follow.ensures.left.kept;
       ready =
           c.in-Ok-follow.ensures.ready w.state cores (subst (λ (t : Tables). AreReady t w.state cores lanes) (sym steps.tables) holds.ready)
-          (subst (λ (s : Step). Follows new.tables s c.in-Ok.made w.state new.state cores c.note-turned.new.cores) (c.step-step.ensures lanes)
-          (subst (λ (t : Tables). Follows t c.step-step.result c.in-Ok.made w.state new.state cores c.note-turned.new.cores) (sym steps.tables)
+          (subst (λ (s : Step). FollowsStep new.tables s c.in-Ok.made w.state new.state cores c.note-turned.new.cores) (c.step-step.ensures lanes)
+          (subst (λ (t : Tables). FollowsStep t c.step-step.result c.in-Ok.made w.state new.state cores c.note-turned.new.cores) (sym steps.tables)
           (follows-noted w.tables c.step-step.result c.in-Ok.made w.state new.state cores c.note-turned.new.cores steps.told c.note-turned.ensures.noted)))
           c.note-turned.ensures.turned;
       tracked =

@@ -1,7 +1,7 @@
 use Rattle.std.proofs.Common.{ap, ◌∙◌, arith}
 use Rattle.std.proofs.lemmas.Grind.{common_steps}
 use Rattle.machine.specs.Completions.{noted}
-use Rattle.violations.proofs.Histories.{seen-more}
+use Rattle.monitor.proofs.Histories.{seen-more}
 use Rattle.monitor.proofs.watch.Watch.see.Goals as goal
 
 pub returns-clause-seen : goal.returns-clause-seen

@@ -1,5 +1,5 @@
-use Rattle.violations.proofs.Histories.{answers-next, seen-more}
-use Rattle.violations.proofs.Told.{unsuspected}
+use Rattle.monitor.proofs.Histories.{answers-next, seen-more}
+use Rattle.monitor.proofs.Told.{unsuspected}
 use Rattle.monitor.proofs.watch.Watch.see_made.Goals as goal
 
 pub see_value-requires : goal.see_value-requires

@@ -1,9 +1,9 @@
 use Rattle.std.proofs.Common.{◌≡◌, ◌∙◌, ap, slice_get, subst, sym}
 use Rattle.base.specs.Steps.{block_of}
-use Rattle.violations.specs.Scenes.{IsLoadOf, scene_in}
-use Rattle.violations.specs.Finding.{AnswersWithin}
-use Rattle.violations.proofs.Findings.{last-answer, none-answer, none-then}
-use Rattle.violations.proofs.Uncrowded.{none-loaded, none-uncrowded, not-loaded, not-stored}
+use Rattle.monitor.specs.Scenes.{IsLoadOf, scene_in}
+use Rattle.monitor.specs.Finding.{AnswersWithin}
+use Rattle.monitor.proofs.Findings.{last-answer, none-answer, none-then}
+use Rattle.monitor.proofs.Uncrowded.{none-loaded, none-uncrowded, not-loaded, not-stored}
 use Rattle.monitor.proofs.watch.Watch.see_value.Goals as goal
 
 pub returns-in-Load-clause-violation : goal.returns-in-Load-clause-violation

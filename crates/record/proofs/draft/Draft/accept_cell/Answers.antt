@@ -1,5 +1,5 @@
 use Rattle.std.proofs.Common.{◌≡◌, ap, subst, ◌∙◌, ◌+◌, ◌-◌, true}
-use Rattle.both_tables.specs.CellPlaces.{place_number}
+use Rattle.tables.specs.CellPlaces.{place_number}
 use Rattle.record_lines.specs.Cells.{is_known}
 use Rattle.record_lines.specs.Grammar.{cells_due}
 use Rattle.record.specs.inner.Drafts.{kept}

@@ -1,6 +1,6 @@
 use Rattle.std.proofs.Common.{arith, subst}
 use Rattle.std.proofs.lemmas.Grind.{common_steps}
-use Rattle.base.specs.Spelling.{words}
+use Rattle.base.specs.Words.{words}
 use Rattle.record_lines.specs.Reading.{IsBadOpening}
 use Rattle.record_lines.proofs.DueFaults.{opening-fault}
 use Rattle.record.proofs.Exits.{handed-on}

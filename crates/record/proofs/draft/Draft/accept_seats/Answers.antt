@@ -1,5 +1,5 @@
 use Rattle.std.proofs.Common.{subst}
-use Rattle.base.specs.Spelling.{words}
+use Rattle.base.specs.Words.{words}
 use Rattle.record_lines.specs.Reading.{IsBadCount}
 use Rattle.record_lines.proofs.DueFaults.{seats-fault}
 use Rattle.record.proofs.Exits.{handed-on}

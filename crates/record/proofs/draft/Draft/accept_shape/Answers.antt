@@ -1,4 +1,4 @@
-use Rattle.base.specs.Spelling.{words}
+use Rattle.base.specs.Words.{words}
 use Rattle.record.specs.inner.Drafts.{kept}
 use Rattle.record.proofs.Drafting.{shape-taken}
 use Rattle.record_lines.proofs.DueFaults.{shape-fault}

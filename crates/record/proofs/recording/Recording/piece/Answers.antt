@@ -4,8 +4,8 @@ use Rattle.std.proofs.lemmas.Option.{get_or_from_slice_get}
 use Rattle.record.specs.inner.Pieces.{value_piece, cells_piece, cell_piece, entries_piece}
 use Rattle.record.proofs.PieceAt.{value-at, cells-at, cell-at, entries-at, entry-at, end-at, fits-here}
 use Rattle.record.proofs.Whole.{pieces-count}
-use Rattle.both_tables.specs.CellPlaces.{all_places}
-use Rattle.both_tables.specs.Tables.{Tables}
+use Rattle.tables.specs.CellPlaces.{all_places}
+use Rattle.tables.specs.Tables.{Tables}
 use Rattle.record.proofs.recording.Recording.piece.Goals as goal
 
 pub returns-then-number-cells-clause-piece : goal.returns-then-number-cells-clause-piece

@@ -1,5 +1,5 @@
 use Rattle.std.proofs.Common.{◌≡◌, ◌+◌, ◌-◌, ◌++◌, ◌∷◌, [], ap, append_assoc, drop, length, rules, sym, take, ◌∙◌}
-use Rattle.base.specs.Spelling.{joined}
+use Rattle.base.specs.Words.{joined}
 use Rattle.record_lines.specs.Text.{entry_words}
 use Rattle.record_lines.specs.Reading.{Gathered}
 use Rattle.record_lines.proofs.Streams.{left-behind, no-line}

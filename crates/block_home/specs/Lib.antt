@@ -1,2 +1,0 @@
-pub mod Sharing
-pub mod Homes

@@ -1,2 +1,0 @@
-pub mod LineSends
-pub mod Fronts

@@ -1,2 +1,0 @@
--- what only the contracts of private functions cite
-pub mod Counting

@@ -1,0 +1,9 @@
+use Rattle.std.proofs.Common.{◌≡◌, All, length}
+use Rattle.floor.specs.inner.Sharing.{no_rows}
+use Rattle.floor.proofs.shares.open_shares.Given as goal
+
+abbrev pub invariant-loop : goal.invariant-loop
+invariant-loop l = record {
+  count : length l.shares.items ≡ l.counter;
+  none : All (λ rows. rows ≡ no_rows (length l.setup.opening)) l.shares.items;
+}

@@ -1,8 +1,0 @@
-pub mod Lists
-pub mod Ties
-pub mod Entering
-pub mod Sharing
-pub mod Recounting
-pub mod Tallying
-pub mod Drawing
-pub mod Calling

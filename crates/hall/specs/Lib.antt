@@ -1,7 +1,0 @@
-pub mod Belonging
-pub mod Histories
-pub mod FloorId
-pub mod Turning
-pub mod Closing
-pub mod Calling
-pub mod inner

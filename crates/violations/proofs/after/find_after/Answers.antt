@@ -1,8 +1,0 @@
-use Rattle.violations.proofs.Told.{unsuspected}
-use Rattle.violations.proofs.after.find_after.Goals as goal
-
-pub find_loaded-requires : goal.find_loaded-requires
-find_loaded-requires c =
-    let told =
-    unsuspected c.args.world.now.tables c.args.step c.args.made.now c.args.world.now.state c.requires (rw c.is_suspect.ensures at c.if-is_suspect.false) in
-    record { met = told.0; uncrowded = told.1 }

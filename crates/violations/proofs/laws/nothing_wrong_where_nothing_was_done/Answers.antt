@@ -1,5 +1,0 @@
-use Rattle.violations.proofs.Findings.{none-otherwise}
-use Rattle.violations.proofs.laws.nothing_wrong_where_nothing_was_done.Goals as goal
-
-pub returns : goal.returns
-returns c = none-otherwise

@@ -1,4 +1,0 @@
-pub mod Alike
-pub mod Fronts
-pub mod Lines
-pub mod Numbers

@@ -1,6 +1,0 @@
-use Rattle.std.proofs.Common.{eqb, rules}
-use Rattle.words.proofs.Lines.{first_word}
-use Rattle.words.proofs.cut.Goals as goal
-
-pub returns : goal.returns
-returns c = first_word (λ b. eqb b 32) c.args.line.now c.blank_at-at.result c.blank_at-at.ensures.place (search rules)
