@@ -150,6 +150,7 @@ def names_of(block):
     return [found[1] for found in (re.search(r"(?:\w+::)*(\w+)", it) for it in parts) if found]
 
 
+@cache
 def is_type_above(name, folder):
     """Whether crates above see a type or a trait: one that the crate declares and hands on, or one that it doesn't declare."""
     declared = re.compile(rf"^(pub(?:\([^)]*\))? )?(?:struct|enum|union|trait|type) {name}\b", re.M)
