@@ -41,6 +41,9 @@ fn play_and_print<I: Read + Drop, O: Write + Drop, E: Write>(
 {
     let played = play_input(alloc, &mut recording, input);
     let printed = print_whole(alloc, &recording, output);
+    if let Err(Fault::NoMemory) = printed {
+        return Err(Fault::NoMemory);
+    }
     let found = FoundViolation(played?);
     printed?;
     // What is told beside the recording doesn't undo it where nobody takes it.
