@@ -2,12 +2,15 @@
 //! words for that.
 #![tactic(auto)]
 
+mod cells;
 mod flights;
 mod part;
 mod telling;
 mod texts;
 mod trips;
+mod waiting;
 
+pub use cells::{CellText, ChangedCells, MetCell, names_of};
 pub use flights::Flights;
 pub use part::{Cut, Excerpt, Shown};
 pub use telling::{Happening, SeenController, Story, look, seat_at};
@@ -16,3 +19,4 @@ pub use texts::{
     put_line, put_message,
 };
 pub use trips::Trip;
+pub use waiting::{Waiting, waiting_at};

@@ -1,3 +1,4 @@
+use crate::cells::{ChangedCells, MetCell, meets_cell};
 use crate::flights::Flights;
 use crate::trips::Trip;
 use base::{BlockId, CacheId, NoMemory, Outcome, Place, Step};
@@ -13,6 +14,7 @@ use world::World;
 pub struct Story {
     world: World,
     watch: Watch,
+    changed: ChangedCells,
     flights: Flights,
     sent: List<Trip>,
     number: u64,
@@ -24,6 +26,7 @@ impl Drop for Story {
         let Story {
             world: _,
             watch: _,
+            changed: _,
             flights: _,
             sent: _,
             number: _,
@@ -54,6 +57,8 @@ pub struct Happening {
     pub place: Option<Place>,
     /// That controller before it and after it, where its cell acted.
     pub acted: Option<(SeenController, SeenController)>,
+    /// The cell that it met, unless it came to nothing before one.
+    pub cell: Option<MetCell>,
     /// The message that it took off its wire.
     pub served: Option<Trip>,
     pub violation: Option<Violation>,
@@ -75,6 +80,7 @@ impl Story {
         Ok(Story {
             world: open_world(alloc, recording)?,
             watch,
+            changed: ChangedCells::of(&recording.tables()),
             flights,
             sent: List::new(alloc),
             number: 0,
@@ -86,6 +92,7 @@ impl Story {
         let (step, number) = (entry.step, self.number);
         let place = self.world.at(step);
         let before = look(&self.world, step.block(), place);
+        let met = self.changed.met(&self.world, step);
         let made = self.world.make(step)?;
         let outcome = made.outcome;
         let violation = self.watch.see_made(&self.world, step, &made);
@@ -99,6 +106,7 @@ impl Story {
             outcome,
             place,
             acted: None,
+            cell: met.filter(|_| meets_cell(outcome)),
             served: None,
             violation,
         };
@@ -141,6 +149,11 @@ impl Story {
     /// The messages that are on their way.
     pub fn flights(&self) -> &Flights {
         &self.flights
+    }
+
+    /// Which cells of the recording's tables differ from the protocol's own.
+    pub fn changed(&self) -> &ChangedCells {
+        &self.changed
     }
 }
 
