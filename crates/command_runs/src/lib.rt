@@ -2,6 +2,7 @@
 #![tactic(auto)]
 
 mod complaining;
+mod ending;
 mod moving;
 mod objects;
 mod output;

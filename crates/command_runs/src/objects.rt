@@ -1,5 +1,5 @@
 use command_output::ViolationObject;
-use retelling::{Happening, Story, Trip, put_message};
+use retelling::{Happening, MetCell, Story, Trip, names_of, put_message};
 use sheet::Sheet;
 
 /// Puts what was seen of a step as an object in JSON, whose keys are the same for every step. None of the words that a story
@@ -18,13 +18,46 @@ pub fn put_object(story: &Story, happening: &Happening, changes: &str, sheet: &m
     sheet.put(&happening.told);
     sheet.push("\",\"outcome\":\"");
     sheet.put(&happening.outcome);
-    sheet.push("\",\"serves\":");
+    sheet.push("\",\"cell\":");
+    match happening.cell {
+        None => sheet.push("null"),
+        Some(cell) => put_cell_object(cell, sheet),
+    }
+    sheet.push(",\"serves\":");
     put_served(happening, sheet);
     sheet.push(",\"changes\":");
     put_text_or_null(changes, sheet);
     put_sent(story.sent(), sheet);
     put_violation(happening, sheet);
     sheet.push("}");
+}
+
+/// Puts a cell as an object, with the message that a delivery found there.
+pub fn put_cell_object(cell: MetCell, sheet: &mut Sheet) {
+    let (side, state, event) = names_of(cell.place);
+    put_string("{\"side\":", side, sheet);
+    put_string(",\"state\":", state, sheet);
+    put_string(",\"event\":", event, sheet);
+    sheet.push(",\"own\":");
+    sheet.push(if cell.is_own { "true" } else { "false" });
+    sheet.push(",\"message\":");
+    match cell.message {
+        None => sheet.push("null"),
+        Some(message) => {
+            sheet.push("\"");
+            put_message(message, sheet);
+            sheet.push("\"");
+        }
+    }
+    sheet.push("}");
+}
+
+/// Puts a key with what stands before it, and a text that needs no escapes.
+pub fn put_string(key: &str, text: &str, sheet: &mut Sheet) {
+    sheet.push(key);
+    sheet.push("\"");
+    sheet.push(text);
+    sheet.push("\"");
 }
 
 fn put_served(happening: &Happening, sheet: &mut Sheet) {

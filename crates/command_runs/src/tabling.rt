@@ -1,3 +1,4 @@
+use crate::ending::{put_end, put_end_objects};
 use crate::objects::put_object;
 use crate::output::NotingOutput;
 use crate::starting::put_start;
@@ -5,15 +6,19 @@ use base::NoMemory;
 use command_output::Fault;
 use record::{Entry, Recording};
 use retelling::{
-    Excerpt, Happening, SeatText, SeenController, Shown, Story, Trip, put_holdings, put_home,
-    put_line, put_message, seat_at,
+    CellText, Cut, Excerpt, Happening, MetCell, SeatText, SeenController, Shown, Story, Trip,
+    put_holdings, put_home, put_line, put_message, seat_at, waiting_at,
 };
 use sheet::Sheet;
 use std::alloc::Global;
 use std::io::Write;
 
 /// What the columns have. The first has the numbers of the entries, and a table for the eye leaves that out.
-const HEADINGS: [&str; 6] = ["step", "outcome", "serves", "changes", "sends", "finds"];
+const HEADINGS: [&str; 7] = [
+    "step", "outcome", "cell", "serves", "changes", "sends", "finds",
+];
+/// How many columns there are with that.
+const COLUMNS: usize = 8;
 /// A text that is longer than this doesn't make its column wider.
 const WIDEST: usize = 100;
 
@@ -55,9 +60,9 @@ struct Table {
     /// The texts of a line's columns, one behind the other.
     sheet: Sheet,
     /// Where those columns end that are filled.
-    ends: [usize; 7],
+    ends: [usize; COLUMNS],
     filled: usize,
-    widths: [usize; 7],
+    widths: [usize; COLUMNS],
     /// An object's text of what a step changed.
     changes: Sheet,
 }
@@ -67,9 +72,9 @@ impl Table {
         Table {
             layout,
             sheet: Sheet::new(alloc),
-            ends: [0; 7],
+            ends: [0; COLUMNS],
             filled: 0,
-            widths: [0; 7],
+            widths: [0; COLUMNS],
             changes: Sheet::new(alloc),
         }
     }
@@ -147,7 +152,33 @@ impl Table {
             self.fill_headings();
             self.write_line(output);
         }
-        self.print_lines(story, recording, part, cut.chosen, output)
+        let shown = self.print_lines(story, recording, part, cut.chosen, output)?;
+        if self.fill_end(alloc, story, part, cut)? && output.fault().is_none() {
+            output.put(self.sheet.text()?.as_bytes());
+        }
+        Ok(shown)
+    }
+
+    /// Puts what waits behind the last entry of a recording in place of what is kept, if the part has that entry. Between tabs there
+    /// is no room for it.
+    fn fill_end(
+        &mut self,
+        alloc: Global,
+        story: &Story,
+        part: Excerpt,
+        cut: Cut<'_>,
+    ) -> Result<bool, NoMemory> {
+        if !cut.behind.is_empty() || self.layout == TableLayout::Tabs {
+            return Ok(false);
+        }
+        let blocks = part.blocks(alloc, story.world().shape(), cut.chosen)?;
+        let waiting = waiting_at(alloc, story, blocks.as_slice())?;
+        self.clear();
+        match self.layout {
+            TableLayout::Objects => put_end_objects(waiting.whole()?, &mut self.sheet),
+            _ => put_end(waiting.whole()?, &mut self.sheet),
+        }
+        Ok(true)
     }
 
     /// Puts the state at the start of a part in place of what is kept.
@@ -279,6 +310,10 @@ impl Table {
         self.end_column();
         self.sheet.put(&happening.outcome);
         self.end_column();
+        if let Some(cell) = happening.cell {
+            put_cell(cell, happening.acted.is_some(), &mut self.sheet);
+        }
+        self.end_column();
         if let Some(trip) = happening.served {
             put_message(trip.message, &mut self.sheet);
         }
@@ -312,6 +347,18 @@ impl Table {
             self.sheet.push("violation ");
             self.sheet.put(&violation);
         }
+    }
+}
+
+/// Puts a cell, marked where it isn't the protocol's own, with the message that stays where the cell hasn't acted.
+fn put_cell(cell: MetCell, has_acted: bool, sheet: &mut Sheet) {
+    sheet.put(&CellText(cell.place));
+    if !cell.is_own {
+        sheet.push(" *");
+    }
+    if let Some(message) = cell.message.filter(|_| !has_acted) {
+        sheet.push(": ");
+        put_message(message, sheet);
     }
 }
 

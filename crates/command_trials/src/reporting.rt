@@ -32,6 +32,8 @@ pub struct BatchPlan {
 pub enum Until {
     Broke,
     Stuck,
+    /// Those of both.
+    Any,
 }
 
 impl Until {
@@ -40,6 +42,7 @@ impl Until {
         match self {
             Until::Broke => matches!(verdict, Verdict::Broke(_)),
             Until::Stuck => verdict == Verdict::Stuck,
+            Until::Any => matches!(verdict, Verdict::Broke(_) | Verdict::Stuck),
         }
     }
 }

@@ -56,7 +56,7 @@ impl fmt::Display for GivenWord<'_> {
 
 /// A word as a shell reads it.
 #[derive(Clone, Copy)]
-struct ShellWord<'w>(&'w str);
+pub(crate) struct ShellWord<'w>(pub(crate) &'w str);
 
 impl fmt::Display for ShellWord<'_> {
     fn fmt<W: fmt::Write>(&self, f: &mut fmt::Formatter<W>) -> fmt::Result {

@@ -10,6 +10,7 @@ mod kept;
 mod limits;
 mod serving;
 mod tasks;
+mod tips;
 mod usage;
 
 pub use files::{Files, LoadFault};

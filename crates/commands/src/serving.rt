@@ -4,6 +4,7 @@ use crate::files::Files;
 use crate::kept::{Kept, Noted};
 use crate::limits::Limits;
 use crate::tasks::Task;
+use crate::tips::tell_tip;
 use clap::error::ErrorKind;
 use clap::{ArgMatches, Error};
 use command_output::{Fault, Finding};
@@ -50,7 +51,11 @@ pub fn serve<R: Threads + Wait + Sync, F: Files, I: Read + Drop, O: Write + Drop
     };
     match read {
         Ok(matches) => serve_matches(rt, alloc, words, &matches, files, input, output, errors),
-        Err(said) => answer(&said, output, &mut errors),
+        Err(said) => {
+            let status = answer(&said, output, &mut errors);
+            tell_tip(alloc, words, &said, &mut errors);
+            status
+        }
     }
 }
 
@@ -83,7 +88,7 @@ fn serve_matches<
                 input: input.fault(),
                 output: output.fault(),
             };
-            let status = refuse(&fault, &mut errors);
+            let status = refuse_unless_closed(&fault, streams.output, &mut errors);
             explain(alloc, matches, &fault, files, streams, &mut errors);
             status
         }
@@ -145,7 +150,6 @@ fn tell_again<E: Write>(
 
 /// Prints what `clap` says in place of a task, help or an error, and answers its exit status.
 fn answer<O: Write + Drop, E: Write>(said: &Error, output: O, errors: &mut E) -> u8 {
-    let mut output = output;
     if said.kind() == ErrorKind::OutOfMemory {
         return refuse(&Fault::NoMemory, errors);
     }
@@ -153,10 +157,20 @@ fn answer<O: Write + Drop, E: Write>(said: &Error, output: O, errors: &mut E) ->
         let _ = write!(errors, "{said}");
         return 2;
     }
+    let mut output = Noted::new(output);
     if write!(output, "{said}").is_err() || output.flush().is_err() {
-        return refuse(&Fault::Device, errors);
+        return refuse_unless_closed(&Fault::Device, output.fault(), errors);
     }
     0
+}
+
+/// Prints a fault, unless it is that nobody reads the output any more: whoever closed it knows. It answers the exit status.
+fn refuse_unless_closed<E: Write>(fault: &Fault, output: Option<io::Error>, errors: &mut E) -> u8 {
+    let is_closed = output.is_some_and(|error| error.kind() == io::ErrorKind::BrokenPipe);
+    match fault {
+        Fault::Device if is_closed => fault.status(),
+        _ => refuse(fault, errors),
+    }
 }
 
 /// Prints a fault, and answers its exit status.

@@ -153,6 +153,7 @@ fn until(options: &ArgMatches<'_>) -> Option<Until> {
     match options.get_str("until")?.as_bytes() {
         b"broke" => Some(Until::Broke),
         b"stuck" => Some(Until::Stuck),
+        b"any" => Some(Until::Any),
         _ => None,
     }
 }

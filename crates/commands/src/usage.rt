@@ -72,7 +72,7 @@ const BLOCKS: CommandOption = CommandOption {
 const PROTOCOL: CommandOption = CommandOption {
     name: "protocol",
     value: "P",
-    help: "The protocol of the controllers",
+    help: "The protocol of the controllers, msi or msi+e",
     takes: Takes::Word(&["msi", "msi+e"]),
     left_out: LeftOut::Default("msi"),
 };
@@ -80,7 +80,7 @@ const PROTOCOL: CommandOption = CommandOption {
 const TABLES: CommandOption = CommandOption {
     name: "tables",
     value: "FILE",
-    help: "A file of cells, in JSON, that replace those of the protocol's own tables",
+    help: "A file of cells, in JSON, in place of the protocol's own",
     takes: Takes::File,
     left_out: LeftOut::Nothing,
 };
@@ -120,7 +120,7 @@ const LIMIT: CommandOption = CommandOption {
 const WORKERS: CommandOption = CommandOption {
     name: "workers",
     value: "W",
-    help: "Among how many threads the trials are shared out, 1 to 64",
+    help: "How many threads share the trials, 1 to 64",
     takes: Takes::UpTo(1, Most::Workers),
     left_out: LeftOut::Default("1"),
 };
@@ -136,8 +136,8 @@ const PROGRESS: CommandOption = CommandOption {
 const UNTIL: CommandOption = CommandOption {
     name: "until",
     value: "KIND",
-    help: "Ends behind the first such trial, and tells how it is made again",
-    takes: Takes::Word(&["broke", "stuck"]),
+    help: "Ends behind the first trial that is broke, stuck, or any of both",
+    takes: Takes::Word(&["broke", "stuck", "any"]),
     left_out: LeftOut::Nothing,
 };
 
@@ -152,7 +152,7 @@ const JSON: CommandOption = CommandOption {
 const PAIRS: CommandOption = CommandOption {
     name: "pairs",
     value: "",
-    help: "Prints the pairs of caches too, where they are closed under the tables",
+    help: "Prints the pairs of caches too, where they are closed",
     takes: Takes::Nothing,
     left_out: LeftOut::Nothing,
 };
@@ -165,7 +165,7 @@ const OBJECTS: CommandOption = CommandOption {
 const TSV: CommandOption = CommandOption {
     name: "tsv",
     value: "",
-    help: "Prints the columns with tabs between them, behind a line of their names",
+    help: "Prints columns with tabs between, behind a line of their names",
     takes: Takes::Nothing,
     left_out: LeftOut::Nothing,
 };
@@ -189,7 +189,7 @@ const TURNS: CommandOption = CommandOption {
 const RECORDING: CommandOption = CommandOption {
     name: "recording",
     value: "",
-    help: "Prints the recording, which names the seat of each step, and on standard error what was found",
+    help: "Prints the recording, and the finding on standard error",
     takes: Takes::Nothing,
     left_out: LeftOut::Nothing,
 };
@@ -197,7 +197,7 @@ const RECORDING: CommandOption = CommandOption {
 const PLAYED: CommandOption = CommandOption {
     name: "recording",
     value: "",
-    help: "Prints the recording of the steps, and on standard error what was found",
+    help: "Prints the recording, and the finding on standard error",
     takes: Takes::Nothing,
     left_out: LeftOut::Nothing,
 };
@@ -228,13 +228,13 @@ const STEPS: CommandOption = CommandOption {
 
 const SOME_CACHES: CommandOption = CommandOption {
     left_out: LeftOut::Nothing,
-    help: "How many caches a scenario is for: as many as it needs, if left out",
+    help: "How many caches it is for; if left out, as many as it needs",
     ..CACHES
 };
 
 const SOME_BLOCKS: CommandOption = CommandOption {
     left_out: LeftOut::Nothing,
-    help: "How many blocks it is for: if left out 1, or as many as it needs where the caches are left out too",
+    help: "How many blocks; 1, or without --caches as many as it needs",
     ..BLOCKS
 };
 
@@ -270,7 +270,7 @@ const COMMANDS: [Usage; 12] = [
     },
     Usage {
         name: "batch",
-        about: "Reads a scenario, makes trials of it and prints their verdicts, one a line",
+        about: "Reads a scenario, makes trials of it and prints their verdicts",
         choices: &[
             CACHES, BLOCKS, PROTOCOL, TABLES, SEED, TRIALS, LIMIT, WORKERS, UNTIL, PROGRESS, JSON,
         ],
@@ -316,19 +316,19 @@ const COMMANDS: [Usage; 12] = [
     },
     Usage {
         name: "certify",
-        about: "Says whether tables are proved safe, and never stuck, and names the first cell that stands against it",
+        about: "Says whether tables are proved safe and never stuck, or why not",
         choices: &[PROTOCOL, TABLES, JSON, PAIRS],
         after: helps::CERTIFY,
     },
     Usage {
         name: "model",
-        about: "Prints both controller tables as a model of one block, in Murphi, for rumur to try every schedule",
+        about: "Prints the tables as a model for rumur, which tries every schedule",
         choices: &[MODEL_CACHES, PROTOCOL, TABLES],
         after: helps::MODEL,
     },
     Usage {
         name: "check",
-        about: "Reads tables and a scenario, and prints what they are; without input, of the tables alone",
+        about: "Reads tables and a scenario, and prints what they are",
         choices: &[SOME_CACHES, SOME_BLOCKS, PROTOCOL, TABLES],
         after: helps::CHECK,
     },
@@ -429,7 +429,9 @@ fn with_value<'a>(arg: Arg<'a>, choice: &CommandOption, limits: &Limits) -> Arg<
         Takes::Number(least, most) => within(arg, least, most),
         Takes::UpTo(least, most) => within(arg, least, limits.of(most)),
         Takes::Seed => arg.value_parser(value_parser!(u64)),
-        Takes::Word(words) => arg.value_parser(ValueParser::Names(words)),
+        Takes::Word(words) => arg
+            .value_parser(ValueParser::Names(words))
+            .hide_possible_values(true),
     }
 }
 
