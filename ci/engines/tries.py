@@ -148,10 +148,10 @@ class Tries:
     def other_words(self):
         """Other options, and another program."""
         before = states(self.folder, ".txt", ".rec", "words")
-        for other in ({"trials": 99}, {"MSI": str(self.held)}):
+        for other, why in (({"trials": 99}, "here '99'"), ({"MSI": str(self.held)}, "another program")):
             found, told = self.run(self.folder, **other)
             expect("what the command and its jobs end with", found, self.engine.refused)
-            expect("a refusal is told", "has batches of another scenario, other options or another program" in told, True)
+            expect("a refusal is told", "has batches of other words" in told and why in told, True)
             expect("the files", states(self.folder, ".txt", ".rec", "words"), before)
         return f"refused; the command ended with {found[0]}" + (", and each job with 2" if found[1] else "")
 
