@@ -43,13 +43,15 @@ def file_words(words):
 
 
 def look_at(words, where=""):
-    """Ends with what the program says, or nearly, where the words name no command or no file: that needs no program."""
+    """Ends as the program does, and says why, where the words name no command or no file that can be read: that needs no program."""
     if words and not words[0].startswith("-") and words[0] not in commands() | {"help"}:
         stop(f"{where}'{words[0]}' is no command; ./msi --help lists them", REFUSED)
     for place, front in file_words(words):
-        file = words[place].removeprefix(front)
-        if not Path(file).exists():
-            stop(f"{where}device: there is no file {file}", DEVICE)
+        try:
+            with open(words[place].removeprefix(front), "rb"):
+                pass
+        except OSError as fault:
+            stop(f"device\nmsi: {where}{fault.filename}: {fault.strerror}", DEVICE)
 
 
 def try_program(crate, words, data, given=subprocess.DEVNULL):

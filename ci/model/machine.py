@@ -91,12 +91,13 @@ class Block:
 
 @dataclass
 class Decision:
-    """What a step comes to: an outcome in advance, or `act`."""
+    """What a step comes to: an outcome in advance, or `act`; and the cell that it meets, by side, state and event, and as it is."""
 
     outcome: str
     cache: Optional[int] = None
     cell: object = None
     message: Optional[Message] = None
+    met: Optional[tuple] = None
 
 
 class World:
@@ -127,12 +128,21 @@ class World:
         return self.at_cache(block, message.receiver, event, message)
 
     def at_cache(self, block, cache, event, message):
-        cell = self.tables.cache.get((block.lines[cache].state, event))
-        return Decision(named(cell), cache, cell, message)
+        met = (block.lines[cache].state, event)
+        cell = self.tables.cache.get(met)
+        return Decision(named(cell), cache, cell, message, ("cache", *met))
 
     def at_home(self, block, message):
-        cell = self.tables.directory.get((block.home.state, event_at_home(block.home, message)))
-        return Decision(named(cell), None, cell, message)
+        met = (block.home.state, event_at_home(block.home, message))
+        cell = self.tables.directory.get(met)
+        return Decision(named(cell), None, cell, message, ("directory", *met))
+
+    def deliveries(self):
+        """All deliveries of messages that could be served next, if their cells act."""
+        for number, block in enumerate(self.blocks):
+            yield from (Delivery("request", number, index) for index in range(len(block.requests)))
+            yield from (Delivery("forward", number, cache) for cache, link in enumerate(block.links) if link)
+            yield from (Delivery("response", number, index) for index in range(len(block.responses)))
 
     def step(self, step):
         """Makes a step, and answers its outcome."""
