@@ -72,7 +72,7 @@ const BLOCKS: CommandOption = CommandOption {
 const PROTOCOL: CommandOption = CommandOption {
     name: "protocol",
     value: "P",
-    help: "The protocol of the controllers, msi or msi+e",
+    help: "The controllers' protocol, msi or msi+e",
     takes: Takes::Word(&["msi", "msi+e"]),
     left_out: LeftOut::Default("msi"),
 };
@@ -136,7 +136,7 @@ const PROGRESS: CommandOption = CommandOption {
 const UNTIL: CommandOption = CommandOption {
     name: "until",
     value: "KIND",
-    help: "Ends behind the first trial that is broke, stuck, or any of both",
+    help: "Ends behind the first such trial: broke, stuck or any",
     takes: Takes::Word(&["broke", "stuck", "any"]),
     left_out: LeftOut::Nothing,
 };
@@ -165,7 +165,7 @@ const OBJECTS: CommandOption = CommandOption {
 const TSV: CommandOption = CommandOption {
     name: "tsv",
     value: "",
-    help: "Prints columns with tabs between, behind a line of their names",
+    help: "Prints columns with tabs between, behind their names",
     takes: Takes::Nothing,
     left_out: LeftOut::Nothing,
 };
@@ -228,13 +228,13 @@ const STEPS: CommandOption = CommandOption {
 
 const SOME_CACHES: CommandOption = CommandOption {
     left_out: LeftOut::Nothing,
-    help: "How many caches it is for; if left out, as many as it needs",
+    help: "How many caches it is for; else as many as it needs",
     ..CACHES
 };
 
 const SOME_BLOCKS: CommandOption = CommandOption {
     left_out: LeftOut::Nothing,
-    help: "How many blocks; 1, or without --caches as many as it needs",
+    help: "How many blocks; else 1, or as it needs without --caches",
     ..BLOCKS
 };
 
