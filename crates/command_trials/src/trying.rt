@@ -37,6 +37,9 @@ fn write_trial<O: Write + Drop, E: Write>(
     print_whole(alloc, &made.recording, output)?;
     // What is told beside the recording doesn't undo it where nobody takes it.
     let _ = writeln!(errors, "verdict {}", made.result);
+    if made.result.verdict == Verdict::Stuck {
+        let _ = writeln!(errors, "msi: msi show and msi chart of the recording tell what waits");
+    }
     Ok(finding(made.result))
 }
 
