@@ -41,6 +41,7 @@ fn play_and_print<I: Read + Drop, O: Write + Drop, E: Write>(
 {
     let played = play_input(alloc, &mut recording, input);
     let printed = print_whole(alloc, &recording, output);
+    // Nothing is printed then, so that comes before what was found or was no step.
     if let Err(Fault::NoMemory) = printed {
         return Err(Fault::NoMemory);
     }
