@@ -116,12 +116,10 @@ fn event_of_request(
 
 /// Whether a cache shares a block, and no other does.
 fn is_only_sharer(world: &World, block: BlockId, cache: CacheId) -> bool {
-    let caches = 0..world.shape().caches();
-    world.shares(cache, block)
-        && caches
-            .filter(|other| world.shares(CacheId(*other), block))
-            .count()
-            == 1
+    let mut others = (0..world.shape().caches())
+        .map(CacheId)
+        .filter(|other| *other != cache);
+    world.shares(cache, block) && !others.any(|other| world.shares(other, block))
 }
 
 /// Whether a step of this outcome met a cell.

@@ -89,10 +89,20 @@ impl Story {
 
     /// Makes the next step, which this seat owns, if one does.
     pub fn advance(&mut self, entry: Entry, seat: Option<u32>) -> Result<Happening, NoMemory> {
+        let met = self.changed.met(&self.world, entry.step);
+        self.make(entry, seat, met)
+    }
+
+    /// Makes the next step, which meets this cell, if it meets one.
+    fn make(
+        &mut self,
+        entry: Entry,
+        seat: Option<u32>,
+        met: Option<MetCell>,
+    ) -> Result<Happening, NoMemory> {
         let (step, number) = (entry.step, self.number);
         let place = self.world.at(step);
         let before = look(&self.world, step.block(), place);
-        let met = self.changed.met(&self.world, step);
         let made = self.world.make(step)?;
         let outcome = made.outcome;
         let violation = self.watch.see_made(&self.world, step, &made);
@@ -121,7 +131,7 @@ impl Story {
     /// Makes the next steps, of which nothing is to be seen.
     pub fn skip(&mut self, entries: &[Entry]) -> Result<(), NoMemory> {
         for entry in entries {
-            let _ = self.advance(*entry, None)?;
+            let _ = self.make(*entry, None, None)?;
         }
         Ok(())
     }
