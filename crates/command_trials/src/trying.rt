@@ -38,7 +38,10 @@ fn write_trial<O: Write + Drop, E: Write>(
     // What is told beside the recording doesn't undo it where nobody takes it.
     let _ = writeln!(errors, "verdict {}", made.result);
     if made.result.verdict == Verdict::Stuck {
-        let _ = writeln!(errors, "msi: msi show and msi chart of the recording tell what waits");
+        let _ = writeln!(
+            errors,
+            "msi: msi show and msi chart of the recording tell what waits"
+        );
     }
     Ok(finding(made.result))
 }
