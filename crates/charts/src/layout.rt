@@ -1,9 +1,11 @@
 use crate::captions::{
-    ArrowText, AskedText, BlockText, BoxText, MarkText, StepText, ask_of, length,
+    ArrowText, AskedText, BlockText, BoxText, LifelineText, MarkText, StepText, ask_of, length,
 };
-use crate::lanes::{Lifeline, Lifelines};
+use crate::lanes::Lifelines;
+use crate::obstacles::ROOM;
 use crate::picture::{Picture, PictureEdge};
 use crate::point::Point;
+use crate::ways::{Heading, level_part};
 use base::{NoMemory, Shape};
 use retelling::{Happening, SeenController};
 use sheet::List;
@@ -27,6 +29,12 @@ const EACH: usize = 40;
 const NARROWEST: i64 = 110;
 /// Half of what a controller takes whose state stays.
 const DOT: i64 = 5;
+/// Half of how high a box is.
+pub const HALF_BOX: i64 = 9;
+/// Half of how high the plate of a name is.
+pub const HALF_PLATE: i64 = 11;
+/// The least that is left between the things on one lifeline and those on the next, or the name of an arrow.
+const FREE: i64 = 10;
 
 /// Where the parts of a picture stand.
 pub struct Layout {
@@ -36,6 +44,8 @@ pub struct Layout {
     first: i64,
     /// From one lifeline to the next.
     spacing: i64,
+    /// How far beside a lifeline nothing stands that is on it.
+    pub side: i64,
     /// Where the steps' texts begin.
     pub steps: i64,
     /// The heights of the rows.
@@ -60,6 +70,7 @@ impl Drop for Layout {
             lanes: _,
             first: _,
             spacing: _,
+            side: _,
             steps: _,
             rows: _,
             plates: _,
@@ -81,18 +92,20 @@ struct Longest {
     number: i64,
     step: i64,
     finding: i64,
+    name: i64,
 }
 
 impl Layout {
     /// Where the parts of a picture stand, of a recording of this shape.
     pub fn of(alloc: Global, picture: &Picture, shape: Shape) -> Result<Layout, NoMemory> {
         let lanes = Lifelines::of(alloc, picture, shape)?;
-        let longest = Longest::of(picture);
+        let longest = Longest::of(picture, &lanes);
         let steps = longest.number.saturating_mul(LETTER).saturating_add(18);
         let mut layout = Layout {
             lanes,
             first: longest.first(steps),
             spacing: longest.spacing(),
+            side: longest.side(),
             steps,
             rows: List::new(alloc),
             plates: List::new(alloc),
@@ -137,6 +150,14 @@ impl Layout {
         self.plates.so_far()
     }
 
+    /// The height of the names that stand before a row, if they do.
+    pub fn plates_before(&self, row: usize) -> Option<i64> {
+        if row == 0 || row % EACH != 0 {
+            return None;
+        }
+        self.plates().get(row / EACH).copied()
+    }
+
     fn width(&self, longest: Longest) -> i64 {
         let behind = self.lane_x(self.lanes.count());
         let finding = longest.finding.saturating_mul(LETTER).saturating_add(20);
@@ -147,6 +168,16 @@ impl Layout {
     pub fn lane_x(&self, lane: u32) -> i64 {
         self.first
             .saturating_add(self.spacing.saturating_mul(i64::from(lane)))
+    }
+
+    /// How far right a lifeline's side is, beside all that stands on it.
+    pub fn edge(&self, lane: u32, side: Heading) -> i64 {
+        self.lane_x(lane).saturating_add(side.along(self.side))
+    }
+
+    /// The lifeline of a row's controller, if it has one.
+    pub fn lane_of(&self, row: &Happening) -> Option<u32> {
+        self.lanes.of_place(row.place?, row.step.block())
     }
 
     /// The height of a row.
@@ -189,7 +220,7 @@ impl Layout {
 }
 
 impl Longest {
-    fn of(picture: &Picture) -> Longest {
+    fn of(picture: &Picture, lanes: &Lifelines) -> Longest {
         let mut longest = Longest {
             label: 4,
             beside: 4,
@@ -197,7 +228,15 @@ impl Longest {
             number: 1,
             step: 8,
             finding: 0,
+            name: 0,
         };
+        for lane in lanes.order() {
+            longest.name = longest.name.max(length(&LifelineText::of(picture, *lane)));
+        }
+        for standing in picture.standings(PictureEdge::Start) {
+            let text = BoxText::of(picture, standing.sight, standing.block);
+            longest.state = longest.state.max(length(&text));
+        }
         for arrow in picture.arrows() {
             let text = ArrowText::of(picture, arrow);
             longest.label = longest.label.max(length(&text));
@@ -249,13 +288,23 @@ impl Longest {
             .saturating_add(40)
     }
 
-    /// From one lifeline to the next.
+    /// From one lifeline to the next: there is room for what stands beside a controller, and for the name of an arrow beside what
+    /// stands on the lifeline before it.
     fn spacing(&self) -> i64 {
         let letters = self.label.max(self.beside).saturating_add(self.state);
-        letters
-            .saturating_mul(LETTER)
-            .saturating_add(48)
-            .max(NARROWEST)
+        let beside = letters.saturating_mul(LETTER).saturating_add(48);
+        let arrow = half_box_of(self.state)
+            .max(self.side())
+            .saturating_add(level_part(self.label))
+            .saturating_add(self.side());
+        beside.max(arrow.saturating_add(FREE)).max(NARROWEST)
+    }
+
+    /// How far beside a lifeline nothing stands that is on it.
+    fn side(&self) -> i64 {
+        half_box_of(self.state)
+            .max(half_plate_of(self.name))
+            .saturating_add(ROOM)
     }
 }
 
@@ -303,5 +352,18 @@ fn is_same_state(before: SeenController, after: SeenController) -> bool {
 
 /// Half the width of a box.
 pub fn half_box(text: &BoxText) -> i64 {
-    (length(text).saturating_mul(LETTER).saturating_add(10)) / 2
+    half_box_of(length(text))
+}
+
+fn half_box_of(letters: i64) -> i64 {
+    letters.saturating_mul(LETTER).saturating_add(10) / 2
+}
+
+/// Half the width of the plate of a name.
+pub fn half_plate(name: &LifelineText) -> i64 {
+    half_plate_of(length(name))
+}
+
+fn half_plate_of(letters: i64) -> i64 {
+    letters.saturating_mul(LETTER).saturating_add(14) / 2
 }

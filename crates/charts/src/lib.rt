@@ -8,12 +8,16 @@ mod charting;
 mod fault;
 mod lanes;
 mod layout;
+mod line;
 mod marks;
+mod obstacles;
 mod picture;
 mod point;
 mod style;
 mod surroundings;
 mod svg;
+mod wayfinding;
+mod ways;
 
 pub use charting::chart;
 pub use fault::ChartFault;

@@ -1,23 +1,26 @@
-use crate::arrows::Heading;
 use crate::captions::{
     AskedText, BlockText, BoxText, MarkText, MomentText, StepText, ask_of, length,
 };
-use crate::layout::{LETTER, Layout, changed, half_box};
+use crate::layout::{HALF_BOX, LETTER, Layout, changed, half_box};
 use crate::picture::{Picture, PictureEdge, ShownController};
 use crate::point::Point;
 use crate::svg::{Anchor, Pen};
+use crate::ways::Heading;
 use base::{BlockId, Outcome, Place};
 use monitor::Violation;
 use retelling::{Happening, SeenController};
 
-/// Half of how high a box is.
-const HALF_BOX: i64 = 9;
 /// How far below the middle of a text its letters stand.
 const BASE: i64 = 4;
 /// How far outside a box the ring of a controller is that a violation names.
 const RING: i64 = 3;
 /// The tints of blocks, in turn.
 const TINTS: [&str; 6] = ["b0", "b1", "b2", "b3", "b4", "b5"];
+
+/// The classes of the texts in boxes of these tints.
+const STATES: [&str; 6] = [
+    "state b0", "state b1", "state b2", "state b3", "state b4", "state b5",
+];
 
 /// What is drawn of a thing: its shape, or the texts of it, which come over all shapes.
 #[derive(Clone, Copy, PartialEq, Eq)]
@@ -42,9 +45,8 @@ pub fn draw_guides(pen: &mut Pen, picture: &Picture, layout: &Layout) {
 
 /// Where the controller of a row stands, if it has one.
 fn center_of(layout: &Layout, number: usize, row: &Happening) -> Option<Point> {
-    let lane = layout.lanes.of_place(row.place?, row.step.block())?;
     Some(Point {
-        x: layout.lane_x(lane),
+        x: layout.lane_x(layout.lane_of(row)?),
         y: layout.row_y(number),
     })
 }
@@ -146,7 +148,8 @@ fn draw_box(
     let text = BoxText::of(picture, standing.sight, standing.block);
     let half = half_box(&text);
     if layer == Layer::Texts {
-        pen.text("state", center.moved(0, BASE), Anchor::Middle, &text);
+        let class = state_class(picture, standing);
+        pen.text(class, center.moved(0, BASE), Anchor::Middle, &text);
         return;
     }
     let class = match standing.sight {
@@ -163,6 +166,17 @@ fn draw_box(
         center.moved(half.saturating_neg(), -HALF_BOX),
         size,
     );
+}
+
+/// The class of the text in a box, which has a rim of the box's tint.
+fn state_class(picture: &Picture, standing: ShownController) -> &'static str {
+    if picture.has_blocks() {
+        return STATES[standing.block.0 as usize % STATES.len()];
+    }
+    match standing.sight {
+        SeenController::Line(..) => "state",
+        SeenController::Home(..) => "state at-home",
+    }
 }
 
 /// The tint of a block, where there are several.

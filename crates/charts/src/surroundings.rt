@@ -1,5 +1,5 @@
-use crate::captions::{LifelineText, ToldText, ViolationText, length};
-use crate::layout::{BAND, LEGEND, LETTER, Layout};
+use crate::captions::{LifelineText, ToldText, ViolationText};
+use crate::layout::{BAND, HALF_PLATE, LEGEND, Layout, half_plate};
 use crate::picture::Picture;
 use crate::point::Point;
 use crate::svg::{Anchor, Pen};
@@ -8,8 +8,6 @@ use crate::svg::{Anchor, Pen};
 const BEHIND: i64 = 14;
 /// How far from the left edge texts begin.
 const MARGIN: i64 = 10;
-/// Half of how high the plate of a name is.
-const HALF_PLATE: i64 = 11;
 
 /// Draws a lifeline for each controller that takes part.
 pub fn draw_lifelines(pen: &mut Pen, layout: &Layout) {
@@ -37,7 +35,7 @@ pub fn draw_plates(pen: &mut Pen, picture: &Picture, layout: &Layout) {
 }
 
 fn draw_plate(pen: &mut Pen, center: Point, name: &LifelineText) {
-    let half = length(name).saturating_mul(LETTER).saturating_add(14) / 2;
+    let half = half_plate(name);
     let size = Point {
         x: half.saturating_mul(2),
         y: HALF_PLATE * 2,
