@@ -1,6 +1,6 @@
 use crate::captions::{ArrowText, EndText, length};
 use crate::layout::{LETTER, Layout};
-use crate::picture::Picture;
+use crate::picture::{ArrowEnd, Picture};
 use crate::svg::{Anchor, Pen};
 use crate::wayfinding::Wayfinder;
 use crate::ways::{ArrowWay, Heading, TIP};
@@ -29,10 +29,10 @@ pub fn draw_ends(pen: &mut Pen, ways: &[ArrowWay]) {
         if way.has_sender {
             pen.circle("tail", way.from, TAIL_DOT);
         }
-        if way.row.is_some() || way.arrow.served.is_none() {
+        if has_tip(way) {
             let back = way.before_tip(TIP);
             let corners = [way.tip, back.moved(0, -HALF_TIP), back.moved(0, HALF_TIP)];
-            pen.shape("head", &corners);
+            pen.shape(head_of(way), &corners);
         }
         pen.end_group();
     }
@@ -56,7 +56,23 @@ fn name_end(pen: &mut Pen, way: &ArrowWay) {
         Heading::Right => (way.tip.moved(12, 4), Anchor::Start),
         Heading::Left => (way.tip.moved(-12, 4), Anchor::End),
     };
-    pen.text("met", at, anchor, &EndText(way.arrow.served));
+    pen.text("met", at, anchor, &EndText(way.arrow.end));
+}
+
+/// Whether an arrow goes on to a tip: it is served in the picture, or never.
+fn has_tip(way: &ArrowWay) -> bool {
+    match way.arrow.end {
+        ArrowEnd::Served(_) => way.row.is_some(),
+        _ => true,
+    }
+}
+
+/// The class of a tip, which has a thick edge where a cell holds the message that isn't the protocol's own.
+fn head_of(way: &ArrowWay) -> &'static str {
+    match way.arrow.end {
+        ArrowEnd::Held(cell) if !cell.is_own => "head changed",
+        _ => "head",
+    }
 }
 
 fn kind_of(way: &ArrowWay) -> &'static str {
@@ -68,9 +84,9 @@ fn kind_of(way: &ArrowWay) -> &'static str {
 }
 
 fn end_of(way: &ArrowWay) -> &'static str {
-    match (way.row, way.arrow.served) {
+    match (way.row, way.arrow.end) {
         (Some(_), _) => "",
-        (None, Some(_)) => " later",
-        (None, None) => " unserved",
+        (None, ArrowEnd::Served(_)) => " later",
+        _ => " unserved",
     }
 }

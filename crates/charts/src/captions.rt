@@ -1,12 +1,12 @@
 use crate::lanes::Lifeline;
-use crate::picture::{Arrow, Picture, PictureEdge};
+use crate::picture::{Arrow, ArrowEnd, Picture, PictureEdge};
 use base::controller::Listed;
 use base::{Ask, BlockId, Outcome, Step};
 use monitor::Violation;
 use network::{Message, Response};
 use retelling::{
-    AcksText, AskText, Happening, RequestText, RequestorText, SeatText, SeenController, Trip,
-    forward_name,
+    AcksText, AskText, CellText, Happening, MetCell, RequestText, RequestorText, SeatText,
+    SeenController, Trip, forward_name,
 };
 use std::fmt;
 use std::fmt::Write as _;
@@ -98,13 +98,15 @@ impl fmt::Display for ArrowText {
 
 /// How a message ends that isn't served in the picture.
 #[derive(Clone, Copy)]
-pub struct EndText(pub Option<u64>);
+pub struct EndText(pub ArrowEnd);
 
 impl fmt::Display for EndText {
     fn fmt<W: fmt::Write>(&self, f: &mut fmt::Formatter<W>) -> fmt::Result {
         match self.0 {
-            None => f.write_str("not served by the end"),
-            Some(number) => write!(f, "served by step {number}"),
+            ArrowEnd::Served(number) => write!(f, "served by step {number}"),
+            ArrowEnd::Unserved => f.write_str("not served by the end"),
+            ArrowEnd::Held(cell) => write!(f, "held by {}", CellText(cell.place)),
+            ArrowEnd::Behind => f.write_str("behind another"),
         }
     }
 }
@@ -147,6 +149,21 @@ pub struct AskedText {
 impl fmt::Display for AskedText {
     fn fmt<W: fmt::Write>(&self, f: &mut fmt::Formatter<W>) -> fmt::Result {
         write!(f, "asks {}{}", AskText(self.ask), self.block)
+    }
+}
+
+/// A load or a store that waits for ever.
+#[derive(Clone, Copy)]
+pub struct WaitsText {
+    /// What was asked.
+    pub ask: Ask,
+    /// The block that it is about.
+    pub block: BlockText,
+}
+
+impl fmt::Display for WaitsText {
+    fn fmt<W: fmt::Write>(&self, f: &mut fmt::Formatter<W>) -> fmt::Result {
+        write!(f, "waits: {}{}", AskText(self.ask), self.block)
     }
 }
 
@@ -271,13 +288,30 @@ impl fmt::Display for ToldText {
     }
 }
 
-/// What is wrong after a step.
+/// What is wrong after a step, and the cell where that is blank.
 #[derive(Clone, Copy)]
-pub struct ViolationText(pub Violation);
+pub struct ViolationText {
+    violation: Violation,
+    blank: Option<MetCell>,
+}
+
+impl ViolationText {
+    /// The text for what a row shows, if anything is wrong there.
+    pub fn of(row: &Happening) -> Option<ViolationText> {
+        Some(ViolationText {
+            violation: row.violation?,
+            blank: row.cell.filter(|_| row.outcome == Outcome::Blank),
+        })
+    }
+}
 
 impl fmt::Display for ViolationText {
     fn fmt<W: fmt::Write>(&self, f: &mut fmt::Formatter<W>) -> fmt::Result {
-        write!(f, "violation {}", self.0)
+        write!(f, "violation {}", self.violation)?;
+        match self.blank {
+            None => Ok(()),
+            Some(cell) => write!(f, ": cell {}", CellText(cell.place)),
+        }
     }
 }
 

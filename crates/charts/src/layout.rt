@@ -1,11 +1,9 @@
-use crate::captions::{
-    ArrowText, AskedText, BlockText, BoxText, LifelineText, MarkText, StepText, ask_of, length,
-};
+use crate::captions::{BoxText, LifelineText, length};
 use crate::lanes::Lifelines;
-use crate::obstacles::ROOM;
+use crate::longest::Longest;
 use crate::picture::{Picture, PictureEdge};
 use crate::point::Point;
-use crate::ways::{Heading, level_part};
+use crate::ways::Heading;
 use base::{NoMemory, Shape};
 use retelling::{Happening, SeenController};
 use sheet::List;
@@ -25,16 +23,12 @@ const TAIL: i64 = 24;
 pub const LEGEND: i64 = 18;
 /// After how many rows the names of the lifelines stand again.
 const EACH: usize = 40;
-/// The least distance of two lifelines.
-const NARROWEST: i64 = 110;
 /// Half of what a controller takes whose state stays.
 const DOT: i64 = 5;
 /// Half of how high a box is.
 pub const HALF_BOX: i64 = 9;
 /// Half of how high the plate of a name is.
 pub const HALF_PLATE: i64 = 11;
-/// The least that is left between the things on one lifeline and those on the next, or the name of an arrow.
-const FREE: i64 = 10;
 
 /// Where the parts of a picture stand.
 pub struct Layout {
@@ -57,6 +51,8 @@ pub struct Layout {
     ends: i64,
     /// The height of the first message that isn't served in the picture.
     tail: i64,
+    /// The height of the band where nothing can go on.
+    stuck: i64,
     /// The height of the legend's first line.
     pub legend: i64,
     /// How wide and how high the whole is.
@@ -77,22 +73,11 @@ impl Drop for Layout {
             starts: _,
             ends: _,
             tail: _,
+            stuck: _,
             legend: _,
             size: _,
         } = self;
     }
-}
-
-/// The longest texts of a picture, in letters.
-#[derive(Clone, Copy)]
-struct Longest {
-    label: i64,
-    beside: i64,
-    state: i64,
-    number: i64,
-    step: i64,
-    finding: i64,
-    name: i64,
 }
 
 impl Layout {
@@ -112,6 +97,7 @@ impl Layout {
             starts: 0,
             ends: 0,
             tail: 0,
+            stuck: 0,
             legend: 0,
             size: Point { x: 0, y: 0 },
         };
@@ -138,11 +124,15 @@ impl Layout {
         }
         self.tail = height.saturating_add(TAIL / 2);
         height = below(height, TAIL, tail_count(picture));
+        if picture.is_stuck() {
+            self.stuck = height.saturating_add(BAND / 2);
+            height = height.saturating_add(BAND);
+        }
         self.ends = height.saturating_add(ROW / 2);
         height = below(height, ROW, picture.blocks().len());
         self.plates.push(height.saturating_add(PLATES / 2));
         self.legend = height.saturating_add(PLATES + LEGEND / 2);
-        self.size.y = below(height.saturating_add(PLATES), LEGEND, 8);
+        self.size.y = below(height.saturating_add(PLATES), LEGEND, 9);
     }
 
     /// The heights of the names of the lifelines.
@@ -159,9 +149,20 @@ impl Layout {
     }
 
     fn width(&self, longest: Longest) -> i64 {
-        let behind = self.lane_x(self.lanes.count());
+        let last = self.lane_x(self.lanes.count().saturating_sub(1));
+        let behind = last.saturating_add(self.spacing);
+        let end = last.saturating_add(longest.end_room());
         let finding = longest.finding.saturating_mul(LETTER).saturating_add(20);
-        behind.max(finding).max(320)
+        behind.max(end).max(finding).max(320)
+    }
+
+    /// The height of the band that says that nothing can go on, where that is so.
+    pub fn stuck_y(&self, picture: &Picture) -> Option<i64> {
+        if picture.is_stuck() {
+            Some(self.stuck)
+        } else {
+            None
+        }
     }
 
     /// How far right the lifeline of a number is.
@@ -219,95 +220,6 @@ impl Layout {
     }
 }
 
-impl Longest {
-    fn of(picture: &Picture, lanes: &Lifelines) -> Longest {
-        let mut longest = Longest {
-            label: 4,
-            beside: 4,
-            state: 4,
-            number: 1,
-            step: 8,
-            finding: 0,
-            name: 0,
-        };
-        for lane in lanes.order() {
-            longest.name = longest.name.max(length(&LifelineText::of(picture, *lane)));
-        }
-        for standing in picture.standings(PictureEdge::Start) {
-            let text = BoxText::of(picture, standing.sight, standing.block);
-            longest.state = longest.state.max(length(&text));
-        }
-        for arrow in picture.arrows() {
-            let text = ArrowText::of(picture, arrow);
-            longest.label = longest.label.max(length(&text));
-        }
-        for row in picture.rows() {
-            longest.widen(picture, row);
-        }
-        longest.step = longest.step.max(12);
-        longest
-    }
-
-    fn widen(&mut self, picture: &Picture, row: &Happening) {
-        let block = BlockText::of(picture, row.step.block());
-        if let Some(ask) = ask_of(row.step) {
-            self.beside = self.beside.max(length(&AskedText { ask, block }));
-        }
-        let mark = MarkText {
-            outcome: row.outcome,
-            block,
-        };
-        self.beside = self.beside.max(length(&mark).saturating_add(2));
-        if let Some(sight) = changed(row) {
-            let text = BoxText { sight, block };
-            self.state = self.state.max(length(&text));
-        }
-        self.number = self.number.max(length(&row.number));
-        self.step = self.step.max(length(&StepText(*row)));
-        if let Some(violation) = row.violation {
-            self.finding = self.finding.max(length(&violation).saturating_add(10));
-        }
-        if row.differs() {
-            self.finding = self.finding.max(
-                length(&row.told)
-                    .saturating_add(length(&row.outcome))
-                    .saturating_add(13),
-            );
-        }
-    }
-
-    /// How far right the first lifeline is, where the steps' texts begin at a place.
-    fn first(&self, steps: i64) -> i64 {
-        let letters = self
-            .step
-            .saturating_add(self.beside)
-            .saturating_add(self.state / 2);
-        letters
-            .saturating_mul(LETTER)
-            .saturating_add(steps)
-            .saturating_add(40)
-    }
-
-    /// From one lifeline to the next: there is room for what stands beside a controller, and for the name of an arrow beside what
-    /// stands on the lifeline before it.
-    fn spacing(&self) -> i64 {
-        let letters = self.label.max(self.beside).saturating_add(self.state);
-        let beside = letters.saturating_mul(LETTER).saturating_add(48);
-        let arrow = half_box_of(self.state)
-            .max(self.side())
-            .saturating_add(level_part(self.label))
-            .saturating_add(self.side());
-        beside.max(arrow.saturating_add(FREE)).max(NARROWEST)
-    }
-
-    /// How far beside a lifeline nothing stands that is on it.
-    fn side(&self) -> i64 {
-        half_box_of(self.state)
-            .max(half_plate_of(self.name))
-            .saturating_add(ROOM)
-    }
-}
-
 /// So many times a distance below a height.
 fn below(height: i64, distance: i64, times: usize) -> i64 {
     let times = i64::try_from(times).unwrap_or(i64::MAX);
@@ -355,7 +267,8 @@ pub fn half_box(text: &BoxText) -> i64 {
     half_box_of(length(text))
 }
 
-fn half_box_of(letters: i64) -> i64 {
+/// Half the width of a box with so many letters.
+pub fn half_box_of(letters: i64) -> i64 {
     letters.saturating_mul(LETTER).saturating_add(10) / 2
 }
 
@@ -364,6 +277,7 @@ pub fn half_plate(name: &LifelineText) -> i64 {
     half_plate_of(length(name))
 }
 
-fn half_plate_of(letters: i64) -> i64 {
+/// Half the width of the plate of a name with so many letters.
+pub fn half_plate_of(letters: i64) -> i64 {
     letters.saturating_mul(LETTER).saturating_add(14) / 2
 }

@@ -9,6 +9,7 @@ mod fault;
 mod lanes;
 mod layout;
 mod line;
+mod longest;
 mod marks;
 mod obstacles;
 mod picture;

@@ -1,14 +1,15 @@
 use crate::captions::{
-    AskedText, BlockText, BoxText, MarkText, MomentText, StepText, ask_of, length,
+    AskedText, BlockText, BoxText, MarkText, MomentText, StepText, WaitsText, ask_of, length,
 };
-use crate::layout::{HALF_BOX, LETTER, Layout, changed, half_box};
+use crate::layout::{HALF_BOX, LETTER, Layout, changed, half_box, half_box_of};
 use crate::picture::{Picture, PictureEdge, ShownController};
 use crate::point::Point;
 use crate::svg::{Anchor, Pen};
 use crate::ways::Heading;
+use base::controller::Listed;
 use base::{BlockId, Outcome, Place};
 use monitor::Violation;
-use retelling::{Happening, SeenController};
+use retelling::{Happening, SeenController, Waiting};
 
 /// How far below the middle of a text its letters stand.
 const BASE: i64 = 4;
@@ -61,6 +62,9 @@ pub fn draw_standings(
 ) {
     if layer == Layer::Texts {
         name_standings(pen, picture, layout, moment);
+        if let PictureEdge::End = moment {
+            name_waiting(pen, picture, layout);
+        }
     }
     for standing in picture.standings(moment) {
         draw_standing(pen, picture, layout, moment, layer, *standing);
@@ -79,6 +83,42 @@ fn name_standings(pen: &mut Pen, picture: &Picture, layout: &Layout, moment: Pic
     }
 }
 
+/// Writes beside controllers at the end which loads and stores wait for ever.
+fn name_waiting(pen: &mut Pen, picture: &Picture, layout: &Layout) {
+    for waiting in picture.waiting() {
+        if let Waiting::Pending {
+            cache,
+            block,
+            ask,
+            state,
+        } = *waiting
+        {
+            let place = Place::Cache(cache);
+            if let Some(center) = standing_center(picture, layout, PictureEdge::End, place, block) {
+                let block = BlockText::of(picture, block);
+                let half = half_box_of(length(&block).saturating_add(length(&state.name())));
+                let at = center.moved(half.saturating_add(7).saturating_neg(), BASE);
+                pen.text("ask", at, Anchor::End, &WaitsText { ask, block });
+            }
+        }
+    }
+}
+
+/// Where a controller stands at a moment.
+fn standing_center(
+    picture: &Picture,
+    layout: &Layout,
+    moment: PictureEdge,
+    place: Place,
+    block: BlockId,
+) -> Option<Point> {
+    let number = picture.blocks().iter().position(|other| *other == block)?;
+    Some(Point {
+        x: layout.lane_x(layout.lanes.of_place(place, block)?),
+        y: layout.standing_y(moment, number),
+    })
+}
+
 fn draw_standing(
     pen: &mut Pen,
     picture: &Picture,
@@ -88,17 +128,8 @@ fn draw_standing(
     standing: ShownController,
 ) {
     let place = place_of(standing.sight);
-    let number = picture
-        .blocks()
-        .iter()
-        .position(|block| *block == standing.block);
-    let lane = layout.lanes.of_place(place, standing.block);
-    if let Some((number, lane)) = number.zip(lane) {
-        let center = Point {
-            x: layout.lane_x(lane),
-            y: layout.standing_y(moment, number),
-        };
-        draw_box(pen, picture, center, standing, layer);
+    if let Some(center) = standing_center(picture, layout, moment, place, standing.block) {
+        draw_box(pen, picture, center, standing, true, layer);
         if is_named(picture, moment, place, standing.block) {
             draw_ring(pen, picture, center, standing, layer);
         }
@@ -143,6 +174,7 @@ fn draw_box(
     picture: &Picture,
     center: Point,
     standing: ShownController,
+    is_own: bool,
     layer: Layer,
 ) {
     let text = BoxText::of(picture, standing.sight, standing.block);
@@ -152,9 +184,11 @@ fn draw_box(
         pen.text(class, center.moved(0, BASE), Anchor::Middle, &text);
         return;
     }
-    let class = match standing.sight {
-        SeenController::Line(..) => "box",
-        SeenController::Home(..) => "box of-home",
+    let class = match (standing.sight, is_own) {
+        (SeenController::Line(..), true) => "box",
+        (SeenController::Line(..), false) => "box changed",
+        (SeenController::Home(..), true) => "box of-home",
+        (SeenController::Home(..), false) => "box of-home changed",
     };
     let size = Point {
         x: half.saturating_mul(2),
@@ -233,8 +267,10 @@ fn name_row(pen: &mut Pen, layout: &Layout, number: usize, row: &Happening) {
     pen.text("step", at, Anchor::Start, &StepText(*row));
 }
 
-/// Draws the box of a row's controller whose state is another one now, or the text in it; and else a dot.
+/// Draws the box of a row's controller whose state is another one now, or the text in it; and else a dot. Where the cell isn't
+/// the protocol's own it has a thick edge.
 fn draw_controller(pen: &mut Pen, picture: &Picture, row: &Happening, center: Point, layer: Layer) {
+    let is_own = row.cell.is_none_or(|cell| cell.is_own);
     if let Some(sight) = changed(row) {
         let block = row.step.block();
         draw_box(
@@ -242,10 +278,16 @@ fn draw_controller(pen: &mut Pen, picture: &Picture, row: &Happening, center: Po
             picture,
             center,
             ShownController { block, sight },
+            is_own,
             layer,
         );
     } else if layer == Layer::Shapes {
-        let class = if row.acted.is_some() { "dot" } else { "tried" };
+        let class = match (row.acted.is_some(), is_own) {
+            (true, true) => "dot",
+            (true, false) => "dot changed",
+            (false, true) => "tried",
+            (false, false) => "tried changed",
+        };
         pen.circle(class, center, 3);
     }
 }

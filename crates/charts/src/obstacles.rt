@@ -2,6 +2,7 @@ use crate::captions::LifelineText;
 use crate::layout::{HALF_BOX, HALF_PLATE, Layout, half_plate};
 use crate::line::Line;
 use crate::picture::Picture;
+use crate::ways::TIP;
 use base::NoMemory;
 use retelling::Happening;
 use std::alloc::Global;
@@ -27,7 +28,7 @@ struct Stack {
     lowers: Vec<i64>,
 }
 
-/// A box, a dot or a name on a lifeline, with the room around it.
+/// A box or a dot with the tips of arrows beside it, or a name, with the room around it.
 #[derive(Clone, Copy)]
 struct Obstacle {
     upper: i64,
@@ -51,7 +52,8 @@ impl Obstacles {
                 obstacles.add_plates(picture, layout, y)?;
             }
             if let Some(lane) = layout.lane_of(row) {
-                let half = layout.half(picture, Some(number));
+                let half = layout.half(picture, Some(number)).saturating_add(TIP);
+                let half = half.min(layout.side.saturating_sub(ROOM));
                 let obstacle = Obstacle::at(layout.row_y(number), HALF_BOX, half);
                 obstacles.add(lane, obstacle.passed_as(row, *sends))?;
             }

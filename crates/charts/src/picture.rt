@@ -3,7 +3,10 @@ use base::{BlockId, CacheId, NoMemory, Place, Shape};
 use cache_table::CacheState;
 use monitor::Violation;
 use record::{Entry, Recording};
-use retelling::{Excerpt, Happening, SeenController, Shown, Story, Trip, look, seat_at};
+use retelling::{
+    Excerpt, Happening, MetCell, SeenController, Shown, Story, Trip, Waiting, look, seat_at,
+    waiting_at,
+};
 use sheet::List;
 use std::alloc::Global;
 
@@ -22,6 +25,8 @@ pub struct Picture {
     /// What controllers are at the part's start and at its end, but for lines in I where there are several blocks.
     starts: List<ShownController>,
     ends: List<ShownController>,
+    /// What waits, where the part ends with the recording and nothing can go on there.
+    waiting: List<Waiting>,
 }
 
 impl Drop for Picture {
@@ -35,23 +40,40 @@ impl Drop for Picture {
             looked_at: _,
             starts: _,
             ends: _,
+            waiting: _,
         } = self;
     }
 }
 
-/// A message, with the number of the step that served it, if one did.
+/// A message, with what becomes of it.
 #[derive(Clone, Copy)]
 pub struct Arrow {
     /// The message, from where to where it goes, and the step that has sent it.
     pub trip: Trip,
-    /// The number of the step that served it.
-    pub served: Option<u64>,
+    /// How it ends.
+    pub end: ArrowEnd,
+}
+
+/// What becomes of a message.
+#[derive(Clone, Copy)]
+pub enum ArrowEnd {
+    /// The step of this number serves it.
+    Served(u64),
+    /// No step of the recording does.
+    Unserved,
+    /// None can, as this cell holds it.
+    Held(MetCell),
+    /// None can, as it is behind another one on its link.
+    Behind,
 }
 
 impl Arrow {
     /// The row that it is served in, if that is in the picture.
     pub fn row_in(&self, picture: &Picture) -> Option<usize> {
-        picture.row_of(self.served?)
+        match self.end {
+            ArrowEnd::Served(number) => picture.row_of(number),
+            _ => None,
+        }
     }
 }
 
@@ -102,6 +124,7 @@ impl Picture {
             looked_at,
             starts: List::new(alloc),
             ends: List::new(alloc),
+            waiting: List::new(alloc),
         })
     }
 
@@ -112,12 +135,13 @@ impl Picture {
         part: Excerpt,
     ) -> Result<(), NoMemory> {
         let mut story = Story::open(alloc, recording)?;
-        self.follow(&mut story, recording, part)
+        self.follow(alloc, &mut story, recording, part)
     }
 
     /// Follows a story from its beginning to its end.
     fn follow(
         &mut self,
+        alloc: Global,
         story: &mut Story,
         recording: &Recording,
         part: Excerpt,
@@ -129,6 +153,9 @@ impl Picture {
         self.tell(story, recording, part, cut.chosen)?;
         stand(story, self.blocks.so_far(), &mut self.ends);
         let end = story.number();
+        if cut.behind.is_empty() {
+            self.waiting = waiting_at(alloc, story, self.looked_at.as_slice())?;
+        }
         self.look_behind(story, cut.behind, end)?;
         self.leave(story, end);
         if self.is_refused() {
@@ -145,6 +172,7 @@ impl Picture {
             || self.blocks.is_refused()
             || self.starts.is_refused()
             || self.ends.is_refused()
+            || self.waiting.is_refused()
     }
 
     fn list_blocks(&mut self) {
@@ -176,6 +204,16 @@ impl Picture {
             PictureEdge::Start => self.starts.so_far(),
             PictureEdge::End => self.ends.so_far(),
         }
+    }
+
+    /// What waits at its end, where nothing can go on there.
+    pub fn waiting(&self) -> &[Waiting] {
+        self.waiting.so_far()
+    }
+
+    /// Whether nothing can go on at its end, and something waits.
+    pub fn is_stuck(&self) -> bool {
+        !self.waiting().is_empty()
     }
 
     /// The last violation in it, with the place of the step that shows it.
@@ -246,17 +284,33 @@ impl Picture {
     /// Notes the message that a step has served.
     fn end(&mut self, happening: Happening) {
         if let Some(trip) = happening.served {
-            let served = Some(happening.number);
-            self.arrows.push(Arrow { trip, served });
+            let end = ArrowEnd::Served(happening.number);
+            self.arrows.push(Arrow { trip, end });
         }
     }
 
     /// Notes the messages of before the rows' end that no step has served.
     fn leave(&mut self, story: &Story, end: u64) {
+        if self.is_stuck() {
+            self.leave_waiting();
+            return;
+        }
         for block in self.blocks.so_far() {
             for row in story.flights().of(*block) {
                 leave_row(&mut self.arrows, row, end);
             }
+        }
+    }
+
+    /// Notes the messages that wait.
+    fn leave_waiting(&mut self) {
+        for waiting in self.waiting.so_far() {
+            let (trip, end) = match *waiting {
+                Waiting::Held(trip, cell) => (trip, ArrowEnd::Held(cell)),
+                Waiting::Behind(trip) => (trip, ArrowEnd::Behind),
+                Waiting::Pending { .. } => continue,
+            };
+            self.arrows.push(Arrow { trip, end });
         }
     }
 }
@@ -267,7 +321,7 @@ fn leave_row(arrows: &mut List<Arrow>, row: &[Trip], end: u64) {
         if trip.sent < end {
             arrows.push(Arrow {
                 trip: *trip,
-                served: None,
+                end: ArrowEnd::Unserved,
             });
         }
     }

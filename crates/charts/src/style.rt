@@ -43,6 +43,9 @@ text{font:11px monospace;fill:#1a1a1a;paint-order:stroke;stroke:#ffffff;stroke-w
 .why{fill:#b00020;font-weight:bold;stroke:#ffd6d6}
 .told-band{fill:#f0f0f0;stroke:#1a1a1a;stroke-width:1;stroke-dasharray:2 2}
 .told{stroke:#f0f0f0}
+.stuck-band{fill:#f0f0f0;stroke:#1a1a1a;stroke-width:1;stroke-dasharray:6 3}
+.stuck{font-weight:bold;stroke:#f0f0f0}
+.changed,.unserved .changed{stroke:#7a1fa2;stroke-width:3}
 @media (prefers-color-scheme:dark){
 .page{fill:#16181c}
 text{fill:#e6e6e6;stroke:#16181c}
@@ -83,5 +86,8 @@ text{fill:#e6e6e6;stroke:#16181c}
 .why{fill:#ffb3ba;stroke:#5c1620}
 .told-band{fill:#2a2d33;stroke:#e6e6e6}
 .told{stroke:#2a2d33}
+.stuck-band{fill:#2a2d33;stroke:#e6e6e6}
+.stuck{stroke:#2a2d33}
+.changed,.unserved .changed{stroke:#d9a6ff}
 }
 ";

@@ -48,7 +48,10 @@ fn draw_plate(pen: &mut Pen, center: Point, name: &LifelineText) {
     pen.text("title", center.moved(0, 4), Anchor::Middle, name);
 }
 
-/// Draws a band behind each row that has a violation, or another outcome than was told.
+/// What a band says where nothing can go on.
+const STUCK: &str = "stuck: nothing can go on";
+
+/// Draws a band behind each row that has a violation, or another outcome than was told, and at the end where nothing can go on.
 pub fn draw_bands(pen: &mut Pen, picture: &Picture, layout: &Layout) {
     let size = Point {
         x: layout.size.x,
@@ -67,6 +70,9 @@ pub fn draw_bands(pen: &mut Pen, picture: &Picture, layout: &Layout) {
             pen.rectangle("band", corner, size);
         }
     }
+    if let Some(y) = layout.stuck_y(picture) {
+        pen.rectangle("stuck-band", Point { x: 0, y }.moved(0, 1 - BAND / 2), size);
+    }
 }
 
 /// Writes what the bands are about.
@@ -80,9 +86,13 @@ pub fn draw_findings(pen: &mut Pen, picture: &Picture, layout: &Layout) {
             pen.text("told", at, Anchor::Start, &ToldText(*row));
             at = at.moved(0, BAND);
         }
-        if let Some(violation) = row.violation {
-            pen.text("why", at, Anchor::Start, &ViolationText(violation));
+        if let Some(text) = ViolationText::of(row) {
+            pen.text("why", at, Anchor::Start, &text);
         }
+    }
+    if let Some(y) = layout.stuck_y(picture) {
+        let at = Point { x: MARGIN, y };
+        pen.text("stuck", at.moved(0, 4), Anchor::Start, &STUCK);
     }
 }
 
@@ -109,6 +119,7 @@ pub fn draw_legend(pen: &mut Pen, layout: &Layout) {
     for (class, meaning) in [
         ("stored", "a store completes"),
         ("loaded", "a load completes"),
+        ("dot changed", "a cell that is not the protocol's own"),
     ] {
         pen.circle(class, at.moved(20, 0), 4);
         pen.text("meaning", at.moved(52, 4), Anchor::Start, &meaning);
