@@ -6,8 +6,8 @@ use strsim::generic_levenshtein;
 /// Of how many bytes a word is at most that is compared with names.
 const MOST_COMPARED: usize = 40;
 
-/// The name among those that were offered that is the nearest to a word: of those that come of it by the fewest edits the
-/// one that was offered first.
+/// The name among those that were offered and are near a word that is the nearest: of those that come of it by the fewest
+/// edits the one that was offered first.
 #[derive(Clone, Copy)]
 struct Nearest<'a> {
     word: &'a [u8],
@@ -39,8 +39,8 @@ impl<'a> Nearest<'a> {
     }
 }
 
-/// How many edits lead from a word to a name: none where only the letters' case differs. A word that is too long, or for
-/// which there is no memory, is as far as can be.
+/// How many edits lead from a word to a name: none where only the letters' case differs. A word that is too long, or isn't
+/// near the name, or for which there is no memory, is as far as can be.
 fn edits(alloc: Global, word: &[u8], name: &[u8]) -> usize {
     if word.len() > MOST_COMPARED {
         return usize::MAX;
@@ -49,12 +49,14 @@ fn edits(alloc: Global, word: &[u8], name: &[u8]) -> usize {
         return 0;
     }
     match generic_levenshtein(alloc, word, name) {
-        // a word that shares little with the name isn't near it
-        Ok(edits) if edits.saturating_mul(3) <= word.len().max(name.len()).saturating_mul(2) => {
-            edits
-        }
+        Ok(edits) if edits <= most_edits(word) && edits < word.len().max(name.len()) => edits,
         _ => usize::MAX,
     }
+}
+
+/// How many edits lead from a word to what is near it at most: one in three letters.
+fn most_edits(word: &[u8]) -> usize {
+    word.len().max(3) / 3
 }
 
 /// Tells the names of a kind that a protocol has, behind these words, and which of them is the nearest to what stands there.

@@ -173,6 +173,19 @@ pub fn tell_wrong(told: &mut Explanation, wrong: Option<Wrong<'_>>) {
     if !due.words().is_empty() {
         tell_words(told, due.words(), "there may stand:", word.unwrap_or(&[]));
     }
+    if due == DueWord::Step {
+        tell_form(told, word.unwrap_or(&[]));
+    }
+}
+
+/// Tells how an ask is spelled, where its name stands as a line's first word.
+fn tell_form(told: &mut Explanation, word: &[u8]) {
+    match word {
+        b"load" => told.line("a load is: ask C B load"),
+        b"store" => told.line("a store is: ask C B store V"),
+        b"replace" => told.line("a replacement is: ask C B replace"),
+        _ => {}
+    }
 }
 
 /// Why a line isn't a step of at most so many bytes. Of a longer line it is enough to know more than these.
