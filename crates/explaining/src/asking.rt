@@ -1,4 +1,5 @@
 use crate::explanation::Explanation;
+use crate::rooms::{Counted, tell_room};
 use crate::steps::{DueWord, tell_line, tell_wrong, without_return, wrong_in};
 use base::{Shape, Step};
 use std::alloc::Global;
@@ -21,18 +22,22 @@ fn tell_step(told: &mut Explanation, shape: Shape, line: &[u8]) {
     match Step::read(line) {
         None => tell_wrong(told, wrong_in(line, DueWord::Step, true)),
         Some(Step::Ask { cache, block, .. }) => {
-            tell_absent(told, "cache", cache.0, shape.caches());
-            tell_absent(told, "block", block.0, shape.blocks());
+            tell_absent(told, shape, Counted::Caches, cache.0);
+            tell_absent(told, shape, Counted::Blocks, block.0);
         }
         Some(_) => told.line("it is a delivery, and only asks are due"),
     }
 }
 
-fn tell_absent(told: &mut Explanation, what: &str, number: u32, count: u32) {
-    if number >= count {
-        told.line(format_args!(
-            "{what} {number} isn't there: they are 0 to {}",
-            count.saturating_sub(1)
-        ));
+fn tell_absent(told: &mut Explanation, shape: Shape, counted: Counted, number: u32) {
+    let count = counted.in_shape(shape);
+    if number < count {
+        return;
     }
+    told.line(format_args!(
+        "{} {number} isn't there: they are 0 to {}",
+        counted.name(),
+        count.saturating_sub(1)
+    ));
+    tell_room(told, counted, u64::from(number), 0);
 }

@@ -1,10 +1,10 @@
 use crate::explanation::Explanation;
-use crate::lines::line_of;
+use crate::faults::{JsonFault, first_fault, first_large_number};
+use crate::lines::{Position, line_of};
 use crate::quoting::Quoted;
+use crate::reasons::Reason;
 use serde_json::{Error, Value};
-
-/// How deep JSON may nest that is read.
-const MOST_LEVELS: usize = 127;
+use std::alloc::Global;
 
 /// What kind of value this is.
 pub fn kind_of(value: &Value) -> &'static str {
@@ -37,18 +37,31 @@ pub fn tell_not_json(told: &mut Explanation, bytes: &[u8], error: &Error) {
         told.line("there is no text: an empty one isn't JSON");
         return;
     }
-    let (line, column) = (error.line(), error.column());
-    told.line(format_args!(
-        "line {line}, column {column}, both counted from 1: {}",
-        reason(bytes, error)
-    ));
-    let text = line_of(bytes, line);
-    let at = if error.is_eof() {
-        text.len()
-    } else {
-        column.saturating_sub(1)
-    };
-    tell_around(told, text, at);
+    match fault_of(told.alloc(), bytes) {
+        Some(fault) => tell_fault(told, bytes, fault),
+        None => told.line("the text isn't JSON"),
+    }
+}
+
+/// The first fault of a text that isn't read as JSON.
+fn fault_of(alloc: Global, bytes: &[u8]) -> Option<JsonFault> {
+    if let Some(fault) = first_fault(bytes) {
+        return Some(fault);
+    }
+    Some(JsonFault {
+        at: first_large_number(alloc, bytes)?,
+        reason: Reason::OutOfRange,
+    })
+}
+
+fn tell_fault(told: &mut Explanation, bytes: &[u8], fault: JsonFault) {
+    let place = Position::of(bytes, fault.at);
+    told.line(format_args!("{place}, both counted from 1: {}", fault.reason));
+    tell_around(
+        told,
+        line_of(bytes, place.line),
+        place.column.saturating_sub(1),
+    );
 }
 
 /// How many bytes are told in front of a fault, and from there on.
@@ -66,37 +79,4 @@ fn tell_around(told: &mut Explanation, line: &[u8], at: usize) {
         let to = rest.len().min(MOST_AROUND);
         told.line(format_args!("from there on: {}", Quoted(&rest[..to])));
     }
-}
-
-fn reason(bytes: &[u8], error: &Error) -> &'static str {
-    if str::from_utf8(bytes).is_err() {
-        return "the bytes from here on aren't UTF-8";
-    }
-    if deepest(bytes) > MOST_LEVELS {
-        return "the text nests deeper than 127 levels";
-    }
-    if error.is_eof() {
-        return "the text ends too early";
-    }
-    "the text isn't JSON here"
-}
-
-/// How deep a text nests, whether or not it is JSON.
-fn deepest(bytes: &[u8]) -> usize {
-    let mut level = 0usize;
-    let mut most = 0usize;
-    let mut is_text = false;
-    let mut is_escaped = false;
-    for byte in bytes {
-        match *byte {
-            _ if is_escaped => is_escaped = false,
-            b'\\' => is_escaped = is_text,
-            b'"' => is_text = !is_text,
-            b'[' | b'{' if !is_text => level = level.saturating_add(1),
-            b']' | b'}' if !is_text => level = level.saturating_sub(1),
-            _ => {}
-        }
-        most = most.max(level);
-    }
-    most
 }

@@ -3,7 +3,7 @@
 use crate::explanation::Explanation;
 use crate::json::kind_of;
 use crate::nearest::tell_words;
-use crate::places::JsonPlace;
+use crate::places::Path;
 use crate::quoting::Quoted;
 use serde_json::{Map, Value};
 
@@ -14,39 +14,39 @@ const MOST_TOLD: usize = 4;
 /// value is no object. Answers whether there was something to tell.
 pub fn tell_keys(
     told: &mut Explanation,
-    place: JsonPlace<'_>,
+    path: &Path<'_>,
     value: &Value,
     due: &[&'static str],
     allowed: &[&'static str],
 ) -> bool {
     match value.as_object() {
         None => {
-            tell_kind(told, place, value, "an object");
+            tell_kind(told, path, value, "an object");
             true
         }
         Some(members) => {
-            let lacks = tell_missing(told, place, value, due);
-            let has_more = tell_more(told, place, members, due, allowed);
+            let lacks = tell_missing(told, path, value, due);
+            let has_more = tell_more(told, path, members, due, allowed);
             lacks || has_more
         }
     }
 }
 
 /// Tells that a value is of another kind than the one that is due.
-pub fn tell_kind(told: &mut Explanation, place: JsonPlace<'_>, value: &Value, due: &str) {
-    told.line(format_args!("{place} is {}, and {due} is due", kind_of(value)));
+pub fn tell_kind(told: &mut Explanation, path: &Path<'_>, value: &Value, due: &str) {
+    told.line(format_args!("{path} is {}, and {due} is due", kind_of(value)));
 }
 
 fn tell_missing(
     told: &mut Explanation,
-    place: JsonPlace<'_>,
+    path: &Path<'_>,
     value: &Value,
     due: &[&'static str],
 ) -> bool {
     let mut lacks = false;
     for key in due {
         if value.get(*key).is_none() {
-            told.line(format_args!("{place} lacks the key {}", Quoted(key.as_bytes())));
+            told.line(format_args!("{path} lacks the key {}", Quoted(key.as_bytes())));
             lacks = true;
         }
     }
@@ -55,7 +55,7 @@ fn tell_missing(
 
 fn tell_more(
     told: &mut Explanation,
-    place: JsonPlace<'_>,
+    path: &Path<'_>,
     members: &Map<String, Value>,
     due: &[&'static str],
     allowed: &[&'static str],
@@ -67,7 +67,7 @@ fn tell_more(
             continue;
         }
         if more < MOST_TOLD {
-            told.line(format_args!("{place} has the key {} too many", Quoted(key.as_bytes())));
+            told.line(format_args!("{path} has the key {} too many", Quoted(key.as_bytes())));
             tell_allowed(told, key, due, allowed);
         }
         more = more.saturating_add(1);

@@ -6,17 +6,24 @@
 mod asking;
 mod cells;
 mod explanation;
+mod faults;
+mod finding;
 mod json;
 mod keys;
 mod lines;
 mod nearest;
+mod numbers;
 mod overrides;
+mod pieces;
 mod places;
 mod quoting;
+mod reasons;
 mod recorded;
 mod recordings;
+mod rooms;
 mod scenarios;
 mod steps;
+mod texts;
 mod trees;
 
 pub use asking::explain_ask;

@@ -2,7 +2,7 @@ use crate::cells::tell_cells;
 use crate::explanation::Explanation;
 use crate::json::{items_at, tell_not_json};
 use crate::keys::{tell_keys, tell_kind};
-use crate::places::JsonPlace;
+use crate::places::Path;
 use base::controller::{Protocol, Side};
 use cache_table::{CacheAction, CacheEvent, CacheState};
 use directory_table::{DirectoryAction, DirectoryEvent, DirectoryState};
@@ -14,18 +14,26 @@ use std::alloc::Global;
 pub fn explain_tables(alloc: Global, protocol: Protocol, bytes: &[u8]) -> Explanation {
     let mut told = Explanation::new(alloc);
     match Value::from_slice(alloc, bytes) {
-        Ok(value) => tell_tables(&mut told, protocol, &value),
+        Ok(value) => tell_tables(&mut told, protocol, bytes, &value),
         Err(error) => tell_not_json(&mut told, bytes, &error),
     }
     told
 }
 
-fn tell_tables(told: &mut Explanation, protocol: Protocol, value: &Value) {
-    if tell_sides(told, value) {
+fn tell_tables(told: &mut Explanation, protocol: Protocol, bytes: &[u8], value: &Value) {
+    let root = Path::root(bytes);
+    if tell_sides(told, &root, value) {
         return;
     }
     let cache = items_at(value, "cache").unwrap_or(&[]);
-    if tell_cells::<CacheState, CacheEvent, CacheAction>(told, protocol, Side::Cache, cache) {
+    let path = root.key("cache");
+    if tell_cells::<CacheState, CacheEvent, CacheAction>(
+        told,
+        protocol,
+        Side::Cache,
+        &path,
+        cache,
+    ) {
         return;
     }
     let directory = items_at(value, "directory").unwrap_or(&[]);
@@ -33,21 +41,22 @@ fn tell_tables(told: &mut Explanation, protocol: Protocol, value: &Value) {
         told,
         protocol,
         Side::Directory,
+        &root.key("directory"),
         directory,
     );
 }
 
 /// Tells what is wrong with the outer object.
-fn tell_sides(told: &mut Explanation, value: &Value) -> bool {
-    tell_keys(told, JsonPlace::Root, value, &[], &["cache", "directory"])
-        || tell_side(told, value, Side::Cache)
-        || tell_side(told, value, Side::Directory)
+fn tell_sides(told: &mut Explanation, root: &Path<'_>, value: &Value) -> bool {
+    tell_keys(told, root, value, &[], &["cache", "directory"])
+        || tell_side(told, root, value, "cache")
+        || tell_side(told, root, value, "directory")
 }
 
-fn tell_side(told: &mut Explanation, value: &Value, side: Side) -> bool {
-    match value.get(side.name()) {
+fn tell_side(told: &mut Explanation, root: &Path<'_>, value: &Value, side: &'static str) -> bool {
+    match value.get(side) {
         Some(cells) if !cells.is_array() => {
-            tell_kind(told, JsonPlace::Cells(side), cells, "an array of cells");
+            tell_kind(told, &root.key(side), cells, "an array of cells");
             true
         }
         _ => false,

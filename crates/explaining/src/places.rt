@@ -1,119 +1,114 @@
-use base::controller::Side;
+use crate::finding::place_of_value;
+use crate::lines::Position;
+use crate::pieces::piece_from;
 use std::fmt;
 
-/// How many turns a path has at most: a node behind more of them is below the deepest level.
-pub const MOST_TURNS: usize = 48;
+/// At how deep a level the deepest node of a scenario stands, where the root's is 1.
+pub const MOST_LEVELS: usize = 48;
 
-/// A key under which the children of a node stand.
-#[derive(Clone, Copy, PartialEq, Eq)]
-pub enum Key {
-    Seq,
-    Any,
-    Both,
-    Of,
+/// How many turns a path has at most: two to each child of a node, and one to a value in it.
+const MOST_TURNS: usize = 100;
+
+/// A turn of a path, from a value to one that stands in it. Items of an array are counted from 0.
+#[derive(Clone, Copy)]
+pub enum Turn {
+    Key(&'static str),
+    Item(usize),
 }
 
-impl Key {
-    pub fn name(self) -> &'static str {
+impl fmt::Display for Turn {
+    fn fmt<W: fmt::Write>(&self, f: &mut fmt::Formatter<W>) -> fmt::Result {
         match self {
-            Key::Seq => "seq",
-            Key::Any => "any",
-            Key::Both => "both",
-            Key::Of => "of",
+            Turn::Key(key) => write!(f, ".{key}"),
+            Turn::Item(number) => write!(f, "[{number}]"),
         }
     }
 }
 
-/// A step from a node to one of its children, which are counted from 0.
+/// The way from the root of a text in JSON to one of its values. It is told with the place where that value begins.
 #[derive(Clone, Copy)]
-struct Turn {
-    key: Key,
-    number: usize,
-}
-
-/// The way from the root of a scenario to one of its nodes.
-#[derive(Clone, Copy)]
-pub struct Path {
+pub struct Path<'a> {
+    bytes: &'a [u8],
     turns: [Turn; MOST_TURNS],
     length: usize,
 }
 
-impl Path {
-    /// The way to the root.
-    pub fn new() -> Path {
-        let turn = Turn {
-            key: Key::Of,
-            number: 0,
-        };
+impl<'a> Path<'a> {
+    /// The way to the root of a text.
+    pub fn root(bytes: &'a [u8]) -> Path<'a> {
         Path {
-            turns: [turn; MOST_TURNS],
+            bytes,
+            turns: [Turn::Item(0); MOST_TURNS],
             length: 0,
         }
     }
 
-    /// Whether it is the way to the root.
-    pub fn is_root(&self) -> bool {
-        self.length == 0
+    /// The text.
+    pub fn bytes(&self) -> &'a [u8] {
+        self.bytes
     }
 
-    /// Goes on to a child, unless the path is full.
-    pub fn go(&mut self, key: Key, number: usize) {
+    /// How many turns it has.
+    pub fn length(&self) -> usize {
+        self.length
+    }
+
+    /// Goes on by a turn, unless the path is full.
+    pub fn go(&mut self, turn: Turn) {
         if self.length < MOST_TURNS {
-            self.turns[self.length] = Turn { key, number };
+            self.turns[self.length] = turn;
             self.length += 1;
         }
     }
 
-    /// Goes back to the node before.
-    pub fn back(&mut self) {
-        self.length = self.length.saturating_sub(1);
+    /// Goes back to the value that so many turns lead to.
+    pub fn back(&mut self, length: usize) {
+        self.length = self.length.min(length);
+    }
+
+    /// The way on to what stands at a key.
+    pub fn key(&self, key: &'static str) -> Path<'a> {
+        let mut path = *self;
+        path.go(Turn::Key(key));
+        path
+    }
+
+    /// The way on to an item, counted from 0.
+    pub fn item(&self, number: usize) -> Path<'a> {
+        let mut path = *self;
+        path.go(Turn::Item(number));
+        path
+    }
+
+    fn turns(&self) -> &[Turn] {
+        &self.turns[..self.length.min(MOST_TURNS)]
+    }
+
+    /// Where the value begins.
+    fn place(&self) -> Option<usize> {
+        place_of_value(self.bytes, self.turns())
+    }
+
+    /// How the text spells the value, if that is plain.
+    pub fn spelled(&self) -> &'a [u8] {
+        let bytes = self.bytes;
+        let Some(at) = self.place() else {
+            return &[];
+        };
+        let piece = piece_from(bytes, at);
+        bytes.get(piece.from..piece.to).unwrap_or(&[])
     }
 }
 
-impl fmt::Display for Path {
+impl fmt::Display for Path<'_> {
     fn fmt<W: fmt::Write>(&self, f: &mut fmt::Formatter<W>) -> fmt::Result {
         f.write_str("$")?;
-        for turn in &self.turns[..self.length.min(MOST_TURNS)] {
-            match turn.key {
-                Key::Of => f.write_str(".of")?,
-                key => write!(f, ".{}[{}]", key.name(), turn.number)?,
-            }
+        for turn in self.turns() {
+            write!(f, "{turn}")?;
         }
-        Ok(())
-    }
-}
-
-/// Where a value stands in a text in JSON. Items of an array are counted from 0.
-#[derive(Clone, Copy)]
-pub enum JsonPlace<'a> {
-    /// The whole text.
-    Root,
-    /// The cells of a side.
-    Cells(Side),
-    /// A cell of a side.
-    Cell(Side, usize),
-    /// What stands in a cell under these keys.
-    Part(Side, usize, &'static str),
-    /// An action of a cell.
-    Action(Side, usize, usize),
-    /// A node of a scenario.
-    Node(&'a Path),
-    /// What stands in a node under this key.
-    Under(&'a Path, &'static str),
-}
-
-impl fmt::Display for JsonPlace<'_> {
-    fn fmt<W: fmt::Write>(&self, f: &mut fmt::Formatter<W>) -> fmt::Result {
-        match self {
-            JsonPlace::Root => f.write_str("$"),
-            JsonPlace::Cells(side) => write!(f, "$.{}", side.name()),
-            JsonPlace::Cell(side, number) => write!(f, "$.{}[{number}]", side.name()),
-            JsonPlace::Part(side, number, keys) => write!(f, "$.{}[{number}].{keys}", side.name()),
-            JsonPlace::Action(side, number, action) => {
-                write!(f, "$.{}[{number}].entry.do[{action}]", side.name())
-            }
-            JsonPlace::Node(path) => write!(f, "{path}"),
-            JsonPlace::Under(path, key) => write!(f, "{path}.{key}"),
+        match self.place() {
+            Some(at) => write!(f, " ({})", Position::of(self.bytes, at)),
+            None => Ok(()),
         }
     }
 }

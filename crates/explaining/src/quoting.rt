@@ -13,17 +13,37 @@ pub struct Quoted<'a>(pub &'a [u8]);
 
 impl fmt::Display for Quoted<'_> {
     fn fmt<W: fmt::Write>(&self, f: &mut fmt::Formatter<W>) -> fmt::Result {
-        let bytes = self.0;
         f.write_str("\"")?;
-        for byte in &bytes[..bytes.len().min(MOST_QUOTED)] {
-            write_byte(*byte, f)?;
-        }
+        write_front(self.0, f)?;
         f.write_str("\"")?;
-        if bytes.len() > MOST_QUOTED {
-            return write!(f, ", cut behind {MOST_QUOTED} of {} bytes", bytes.len());
-        }
-        Ok(())
+        write_cut(self.0, f)
     }
+}
+
+/// Bytes as `Quoted` shows them, but without quotes.
+#[derive(Clone, Copy)]
+pub struct Bare<'a>(pub &'a [u8]);
+
+impl fmt::Display for Bare<'_> {
+    fn fmt<W: fmt::Write>(&self, f: &mut fmt::Formatter<W>) -> fmt::Result {
+        write_front(self.0, f)?;
+        write_cut(self.0, f)
+    }
+}
+
+fn write_front<W: fmt::Write>(bytes: &[u8], f: &mut fmt::Formatter<W>) -> fmt::Result {
+    for byte in &bytes[..bytes.len().min(MOST_QUOTED)] {
+        write_byte(*byte, f)?;
+    }
+    Ok(())
+}
+
+/// Tells how many bytes there are, where they aren't all shown.
+fn write_cut<W: fmt::Write>(bytes: &[u8], f: &mut fmt::Formatter<W>) -> fmt::Result {
+    if bytes.len() > MOST_QUOTED {
+        return write!(f, ", cut behind {MOST_QUOTED} of {} bytes", bytes.len());
+    }
+    Ok(())
 }
 
 fn write_byte<W: fmt::Write>(byte: u8, f: &mut fmt::Formatter<W>) -> fmt::Result {

@@ -1,6 +1,6 @@
 use crate::explanation::Explanation;
 use crate::json::{items_at, tell_not_json};
-use crate::places::{JsonPlace, Key, MOST_TURNS, Path};
+use crate::places::{MOST_LEVELS, Path, Turn};
 use crate::trees::{has_many, longest, tell_form, tell_shape};
 use base::Shape;
 use serde_json::Value;
@@ -11,31 +11,31 @@ use std::alloc::Global;
 pub fn explain_scenario(alloc: Global, shape: Shape, bytes: &[u8]) -> Explanation {
     let mut told = Explanation::new(alloc);
     match Value::from_slice(alloc, bytes) {
-        Ok(value) => tell_tree(&mut told, shape, &value),
+        Ok(value) => tell_tree(&mut told, shape, bytes, &value),
         Err(error) => tell_not_json(&mut told, bytes, &error),
     }
     told
 }
 
-fn tell_tree(told: &mut Explanation, shape: Shape, value: &Value) {
-    let mut path = Path::new();
+fn tell_tree(told: &mut Explanation, shape: Shape, bytes: &[u8], value: &Value) {
+    let mut path = Path::root(bytes);
     if !tell_node(told, shape, &mut path, LEVELS, value) {
-        tell_length(told, value);
+        tell_length(told, bytes, value);
     }
 }
 
 /// How many levels a scenario has at most.
-const LEVELS: u32 = MOST_TURNS as u32;
+const LEVELS: u32 = MOST_LEVELS as u32;
 
 /// The keys of lists of children.
-const LISTS: [Key; 3] = [Key::Seq, Key::Any, Key::Both];
+const LISTS: [&str; 3] = ["seq", "any", "both"];
 
 /// Tells the first node with a fault, from this one on, and answers whether there is one.
 #[cycle(searching)]
 fn tell_node(
     told: &mut Explanation,
     shape: Shape,
-    path: &mut Path,
+    path: &mut Path<'_>,
     levels: u32,
     value: &Value,
 ) -> bool {
@@ -48,7 +48,7 @@ fn tell_node(
         return true;
     }
     for key in LISTS {
-        if let Some(children) = items_at(value, key.name()) {
+        if let Some(children) = items_at(value, key) {
             return tell_children(told, shape, path, levels - 1, key, children);
         }
     }
@@ -59,15 +59,13 @@ fn tell_node(
 }
 
 /// Tells what is wrong with a node itself.
-fn tell_own(told: &mut Explanation, shape: Shape, path: &Path, value: &Value) -> bool {
+fn tell_own(told: &mut Explanation, shape: Shape, path: &Path<'_>, value: &Value) -> bool {
     if tell_form(told, path, value) {
         return true;
     }
     if items_at(value, "any").is_some_and(<[Value]>::is_empty) {
-        told.line(format_args!(
-            "{} has no child, and one is due at least",
-            JsonPlace::Under(path, "any")
-        ));
+        let path = path.key("any");
+        told.line(format_args!("{path} has no child, and one is due at least"));
         return true;
     }
     tell_shape(told, shape, path, value)
@@ -77,17 +75,19 @@ fn tell_own(told: &mut Explanation, shape: Shape, path: &Path, value: &Value) ->
 fn tell_children(
     told: &mut Explanation,
     shape: Shape,
-    path: &mut Path,
+    path: &mut Path<'_>,
     levels: u32,
-    key: Key,
+    key: &'static str,
     children: &[Value],
 ) -> bool {
+    let length = path.length();
     for (number, child) in children.iter().enumerate() {
-        path.go(key, number);
+        path.go(Turn::Key(key));
+        path.go(Turn::Item(number));
         if tell_node(told, shape, path, levels, child) {
             return true;
         }
-        path.back();
+        path.back(length);
     }
     false
 }
@@ -96,18 +96,19 @@ fn tell_children(
 fn tell_child(
     told: &mut Explanation,
     shape: Shape,
-    path: &mut Path,
+    path: &mut Path<'_>,
     levels: u32,
     child: &Value,
 ) -> bool {
-    path.go(Key::Of, 0);
+    let length = path.length();
+    path.go(Turn::Key("of"));
     let is_told = tell_node(told, shape, path, levels, child);
-    path.back();
+    path.back(length);
     is_told
 }
 
 /// Tells that the longest word is too long, and which node is the last one that alone makes it so.
-fn tell_length(told: &mut Explanation, value: &Value) {
+fn tell_length(told: &mut Explanation, bytes: &[u8], value: &Value) {
     if !has_many(value) {
         return;
     }
@@ -115,32 +116,35 @@ fn tell_length(told: &mut Explanation, value: &Value) {
         "the longest word has {} asks, and 1000000 are the most",
         longest(value, LEVELS)
     ));
-    let mut path = Path::new();
+    let mut path = Path::root(bytes);
     let mut node = value;
-    for _ in 0..MOST_TURNS {
+    for _ in 0..MOST_LEVELS {
         let Some((key, number, child)) = long_child(node) else {
             break;
         };
-        path.go(key, number);
+        path.go(Turn::Key(key));
+        if let Some(number) = number {
+            path.go(Turn::Item(number));
+        }
         node = child;
     }
-    if !path.is_root() {
+    if path.length() > 0 {
         told.line(format_args!("{path} alone has {} of them", longest(node, LEVELS)));
     }
 }
 
-/// The first child that has too long a word itself.
-fn long_child(node: &Value) -> Option<(Key, usize, &Value)> {
+/// The first child that has too long a word itself: at which key, and which of its items, where these are more.
+fn long_child(node: &Value) -> Option<(&'static str, Option<usize>, &Value)> {
     for key in LISTS {
-        for (number, child) in items_at(node, key.name()).unwrap_or(&[]).iter().enumerate() {
+        for (number, child) in items_at(node, key).unwrap_or(&[]).iter().enumerate() {
             if has_many(child) {
-                return Some((key, number, child));
+                return Some((key, Some(number), child));
             }
         }
     }
     let child = node.get("of")?;
     if has_many(child) {
-        Some((Key::Of, 0, child))
+        Some(("of", None, child))
     } else {
         None
     }

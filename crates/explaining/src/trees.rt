@@ -4,8 +4,9 @@ use crate::explanation::Explanation;
 use crate::json::{items_at, kind_of, text_at};
 use crate::keys::{tell_keys, tell_kind};
 use crate::nearest::tell_words;
-use crate::places::{JsonPlace, MOST_TURNS, Path};
-use crate::quoting::Quoted;
+use crate::places::{MOST_LEVELS, Path};
+use crate::quoting::{Bare, Quoted};
+use crate::rooms::{Counted, greatest_in, tell_room};
 use base::Shape;
 use serde_json::Value;
 
@@ -18,9 +19,9 @@ const FORMS: [&str; 6] = ["op", "seq", "any", "times", "of", "both"];
 const ASKS: [&str; 3] = ["load", "store", "replace"];
 
 /// Tells what a node's form has wrong, whatever stands below it.
-pub fn tell_form(told: &mut Explanation, path: &Path, value: &Value) -> bool {
+pub fn tell_form(told: &mut Explanation, path: &Path<'_>, value: &Value) -> bool {
     if !value.is_object() {
-        tell_kind(told, JsonPlace::Node(path), value, "an object");
+        tell_kind(told, path, value, "an object");
         return true;
     }
     if value.get("op").is_some() {
@@ -32,7 +33,7 @@ pub fn tell_form(told: &mut Explanation, path: &Path, value: &Value) -> bool {
         }
     }
     if value.get("times").is_some() || value.get("of").is_some() {
-        return tell_keys(told, JsonPlace::Node(path), value, &["times", "of"], &[])
+        return tell_keys(told, path, value, &["times", "of"], &[])
             || tell_number(told, path, value, "times", u64::from(u32::MAX));
     }
     tell_no_form(told, path, value);
@@ -41,28 +42,23 @@ pub fn tell_form(told: &mut Explanation, path: &Path, value: &Value) -> bool {
 
 fn tell_list(
     told: &mut Explanation,
-    path: &Path,
+    path: &Path<'_>,
     value: &Value,
     key: &'static str,
     children: &Value,
 ) -> bool {
-    if tell_keys(told, JsonPlace::Node(path), value, &[key], &[]) {
+    if tell_keys(told, path, value, &[key], &[]) {
         return true;
     }
     if !children.is_array() {
-        tell_kind(
-            told,
-            JsonPlace::Under(path, key),
-            children,
-            "an array of nodes",
-        );
+        tell_kind(told, &path.key(key), children, "an array of nodes");
         return true;
     }
     false
 }
 
 /// Tells that a node has none of the keys by which one is known.
-fn tell_no_form(told: &mut Explanation, path: &Path, value: &Value) {
+fn tell_no_form(told: &mut Explanation, path: &Path<'_>, value: &Value) {
     told.line(format_args!("{path} has none of the keys of a node"));
     let first = match value.as_object() {
         Some(members) => match members.iter().next() {
@@ -77,37 +73,34 @@ fn tell_no_form(told: &mut Explanation, path: &Path, value: &Value) {
     tell_words(told, &FORMS, "a node is known by one of:", first.as_bytes());
 }
 
-fn tell_ask(told: &mut Explanation, path: &Path, value: &Value) -> bool {
-    let place = JsonPlace::Node(path);
+fn tell_ask(told: &mut Explanation, path: &Path<'_>, value: &Value) -> bool {
     match text_at(value, "op") {
         Some("store") => {
-            tell_keys(told, place, value, &["op", "core", "block", "value"], &[])
+            tell_keys(told, path, value, &["op", "core", "block", "value"], &[])
                 || tell_numbers(told, path, value)
                 || tell_number(told, path, value, "value", u64::MAX)
         }
         Some("load" | "replace") => {
-            tell_keys(told, place, value, &["op", "core", "block"], &[])
+            tell_keys(told, path, value, &["op", "core", "block"], &[])
                 || tell_numbers(told, path, value)
         }
         Some(word) => {
             let quoted = Quoted(word.as_bytes());
-            told.line(format_args!(
-                "{} is {quoted}, which is no ask",
-                JsonPlace::Under(path, "op")
-            ));
+            let path = path.key("op");
+            told.line(format_args!("{path} is {quoted}, which is no ask"));
             tell_words(told, &ASKS, "there may stand:", word.as_bytes());
             true
         }
         None => {
             if let Some(op) = value.get("op") {
-                tell_kind(told, JsonPlace::Under(path, "op"), op, "a text");
+                tell_kind(told, &path.key("op"), op, "a text");
             }
             true
         }
     }
 }
 
-fn tell_numbers(told: &mut Explanation, path: &Path, value: &Value) -> bool {
+fn tell_numbers(told: &mut Explanation, path: &Path<'_>, value: &Value) -> bool {
     tell_number(told, path, value, "core", u64::from(u32::MAX))
         || tell_number(told, path, value, "block", u64::from(u32::MAX))
 }
@@ -115,7 +108,7 @@ fn tell_numbers(told: &mut Explanation, path: &Path, value: &Value) -> bool {
 /// Tells that what stands at a key is no whole number up to this one.
 fn tell_number(
     told: &mut Explanation,
-    path: &Path,
+    path: &Path<'_>,
     value: &Value,
     key: &'static str,
     most: u64,
@@ -126,42 +119,45 @@ fn tell_number(
     if number.as_u64().is_some_and(|n| n <= most) {
         return false;
     }
-    let place = JsonPlace::Under(path, key);
+    let path = path.key(key);
     if number.is_number() {
-        told.line(format_args!("{place} is {number}, and a whole number from 0 to {most} is due"));
+        let number = Bare(path.spelled());
+        told.line(format_args!("{path} is {number}, and a whole number from 0 to {most} is due"));
     } else {
         let kind = kind_of(number);
-        told.line(format_args!("{place} is {kind}, and a whole number from 0 to {most} is due"));
+        told.line(format_args!("{path} is {kind}, and a whole number from 0 to {most} is due"));
     }
     true
 }
 
 /// Tells that an ask's core or block isn't there.
-pub fn tell_shape(told: &mut Explanation, shape: Shape, path: &Path, value: &Value) -> bool {
+pub fn tell_shape(told: &mut Explanation, shape: Shape, path: &Path<'_>, value: &Value) -> bool {
     if value.get("op").is_none() {
         return false;
     }
-    let core = tell_absent(told, path, value, "core", shape.caches());
-    let block = tell_absent(told, path, value, "block", shape.blocks());
+    let core = tell_absent(told, shape, path, value, Counted::Caches);
+    let block = tell_absent(told, shape, path, value, Counted::Blocks);
     core || block
 }
 
 fn tell_absent(
     told: &mut Explanation,
-    path: &Path,
+    shape: Shape,
+    path: &Path<'_>,
     value: &Value,
-    key: &'static str,
-    count: u32,
+    counted: Counted,
 ) -> bool {
+    let (key, count) = (counted.key(), counted.in_shape(shape));
     let Some(number) = number_at(value, key) else {
         return false;
     };
     if number < u64::from(count) {
         return false;
     }
-    let place = JsonPlace::Under(path, key);
     let last = count.saturating_sub(1);
-    told.line(format_args!("{place} is {number}, and the {key}s are 0 to {last}"));
+    let path = path.key(key);
+    told.line(format_args!("{path} is {number}, and the {key}s are 0 to {last}"));
+    tell_room(told, counted, number, greatest_in(path.bytes(), counted));
     true
 }
 
@@ -171,7 +167,7 @@ fn number_at(value: &Value, key: &str) -> Option<u64> {
 
 /// Whether a node's longest word has more asks than a word may have.
 pub fn has_many(value: &Value) -> bool {
-    longest(value, MOST_TURNS as u32) > LONGEST
+    longest(value, MOST_LEVELS as u32) > LONGEST
 }
 
 /// How many asks the longest word of a node has, or the greatest number where it has more.
