@@ -5,6 +5,7 @@
 
 mod cells;
 mod certificates;
+mod changes;
 mod checking;
 mod counting;
 mod jamming;
@@ -21,6 +22,7 @@ mod schedules_with_e;
 mod sides;
 
 pub use certificates::{CertificateForm, print_certificate};
+pub use changes::print_changes;
 pub use checking::{Bounds, check};
 pub use modelling::{MOST_CACHES, print_model};
 pub use printing::print_tables;
