@@ -17,6 +17,8 @@ mod directory_cells;
 #[cfg(test)]
 mod exclusive;
 #[cfg(test)]
+mod explained;
+#[cfg(test)]
 mod jams;
 #[cfg(test)]
 mod making;
