@@ -11,17 +11,16 @@ use std::alloc::Global;
 use std::process::Abort;
 use tables::{CELLS, CellPlace, Tables};
 
-/// A protocol's own tables with a stall in one cell.
-fn stalled(protocol: Protocol, cell: CellPlace) -> Tables {
-    let own = Tables::baseline_of(protocol);
+/// Tables with a stall in place of one cell's entry.
+pub fn stalled(tables: Tables, cell: CellPlace) -> Tables {
     match cell {
         CellPlace::Cache(state, event) => Tables {
-            cache: own.cache.with(state, event, CacheEntry::Stall),
-            directory: own.directory,
+            cache: tables.cache.with(state, event, CacheEntry::Stall),
+            directory: tables.directory,
         },
         CellPlace::Directory(state, event) => Tables {
-            cache: own.cache,
-            directory: own.directory.with(state, event, DirectoryEntry::Stall),
+            cache: tables.cache,
+            directory: tables.directory.with(state, event, DirectoryEntry::Stall),
         },
     }
 }
@@ -40,7 +39,7 @@ fn is_shown(rt: &impl Abort, alloc: Global, tables: &Tables) -> bool {
 
 /// Whether a stall in this cell jams. It has to be shown then, and not otherwise.
 fn jams(rt: &impl Abort, alloc: Global, protocol: Protocol, cell: CellPlace) -> bool {
-    let tables = stalled(protocol, cell);
+    let tables = stalled(Tables::baseline_of(protocol), cell);
     let jams = matches!(certify(alloc, &tables), Certificate::MessagesMayGetStuck(_));
     assert_eq!(rt; is_shown(rt, alloc, &tables), jams, "at {cell:?}");
     jams

@@ -9,6 +9,8 @@ mod cache_cells;
 #[cfg(test)]
 mod certifying;
 #[cfg(test)]
+mod changes;
+#[cfg(test)]
 mod closed_pairs;
 #[cfg(test)]
 mod damaged;
