@@ -15,7 +15,7 @@ from model.trials import tree_of, trial
 TABLES = b"overrides.json"
 WORDS = (
     b"play trial batch replay move floor tables certify show chart --protocol msi msi+e mesi --block --from --steps --caches --blocks --tables --seed --number --limit --trials --workers --seats --turns "
-    b"--progress --recording --json --tsv --until broke stuck --explain check model --help --version -h -V help -- - --caches=2 --blocks=1 --colour 0 1 2 3 64 65 4096 4097 65536 65537 1000000 1000001 "
+    b"--progress --recording --json --tsv --until broke stuck --explain --changes check model --help --version -h -V help -- - --caches=2 --blocks=1 --colour 0 1 2 3 64 65 4096 4097 65536 65537 1000000 1000001 "
     b"4294967295 4294967296 18446744073709551615 18446744073709551616 -1 +1 01 1.0 two overrides.json absent.json \xff \xe2\x80\x8b"
 ).split(b" ") + [b"", b" "]
 

@@ -191,7 +191,8 @@ pub const TABLES: &str =
   eight actions
 
 Printed are all cells, the caches' first, one a line: blank, stall, or
-act NEXT ACTION ..
+act NEXT ACTION .. With --changes they are those alone that aren't the
+protocol's own, in JSON, as FILE has them.
 
 Status: 0 printed, 2 wrong words or tables, 3 device or memory.
 

@@ -9,7 +9,7 @@ use clap::error::ErrorKind;
 use clap::{ArgMatches, Error};
 use command_output::{Fault, Finding};
 use command_runs::{move_recording, play, play_recording, print_recording, replay};
-use command_tables::{check, print_certificate, print_model, print_tables};
+use command_tables::{check, print_certificate, print_changes, print_model, print_tables};
 use command_trials::{MOST_STEPS, MOST_TRIALS, MOST_WORKERS, batch, one_trial, race};
 use std::alloc::Global;
 use std::io;
@@ -221,6 +221,7 @@ fn carry_out<R: Threads + Wait + Sync, I: Read + Drop, O: Write + Drop, E: Write
         Task::Move => move_recording(alloc, input, output),
         Task::Show(form, part) => print_recording(alloc, form, part, input, output),
         Task::Tables(tables) => print_tables(alloc, &tables, output),
+        Task::Changes(tables) => print_changes(alloc, &tables, output),
         Task::Certify(tables, form) => print_certificate(alloc, &tables, form, output),
         Task::Model(tables, caches) => print_model(alloc, &tables, caches, output),
         Task::Check(tables, bounds) => check(alloc, &tables, bounds, input, output),

@@ -33,6 +33,8 @@ pub enum Task {
     Show(ShownForm, Excerpt),
     /// Print the cells of these tables.
     Tables(Tables),
+    /// Print those that aren't the protocol's own, as a file of changed cells.
+    Changes(Tables),
     /// Print in this form whether these tables are proved safe.
     Certify(Tables, CertificateForm),
     /// Print these tables as a model with so many caches.
@@ -62,13 +64,25 @@ impl Task {
             "move" => Some(Task::Move),
             "show" => Some(Task::Show(ShownForm::Table(layout(options)), part(options))),
             "chart" => Some(Task::Show(ShownForm::Chart, part(options))),
-            "tables" => Some(Task::Tables(tables(alloc, options, files)?)),
+            "tables" => Some(printing(alloc, options, files)?),
             "certify" => Some(Task::Certify(tables(alloc, options, files)?, certifying(options))),
             "model" => Some(modelling(alloc, options, files)?),
             "check" => Some(Task::Check(tables(alloc, options, files)?, bounds(options))),
             _ => None,
         })
     }
+}
+
+fn printing<F: Files>(
+    alloc: Global,
+    options: &ArgMatches<'_>,
+    files: &mut F,
+) -> Result<Task, Fault> {
+    let tables = tables(alloc, options, files)?;
+    if options.get_flag("changes") {
+        return Ok(Task::Changes(tables));
+    }
+    Ok(Task::Tables(tables))
 }
 
 fn certifying(options: &ArgMatches<'_>) -> CertificateForm {

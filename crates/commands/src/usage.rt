@@ -149,6 +149,14 @@ const JSON: CommandOption = CommandOption {
     left_out: LeftOut::Nothing,
 };
 
+const CHANGES: CommandOption = CommandOption {
+    name: "changes",
+    value: "",
+    help: "Prints the cells that aren't the protocol's own, for --tables",
+    takes: Takes::Nothing,
+    left_out: LeftOut::Nothing,
+};
+
 const PAIRS: CommandOption = CommandOption {
     name: "pairs",
     value: "",
@@ -311,7 +319,7 @@ const COMMANDS: [Usage; 12] = [
     Usage {
         name: "tables",
         about: "Prints the cells of both controller tables, one a line",
-        choices: &[PROTOCOL, TABLES],
+        choices: &[PROTOCOL, TABLES, CHANGES],
         after: helps::TABLES,
     },
     Usage {
