@@ -20,7 +20,7 @@ _msi() {
             chart) words='--block --from --steps --explain --help' ;;
             move) words='--explain --help' ;;
             floor) words='--caches --blocks --protocol --tables --seats --turns --seed --recording --explain --help' ;;
-            tables) words='--protocol --tables --explain --help' ;;
+            tables) words='--protocol --tables --changes --explain --help' ;;
             certify) words='--protocol --tables --json --pairs --explain --help' ;;
             model) words='--caches --protocol --tables --explain --help' ;;
             check) words='--caches --blocks --protocol --tables --explain --help' ;;

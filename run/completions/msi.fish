@@ -67,6 +67,7 @@ complete -c msi -n '__fish_seen_subcommand_from floor' -l help -d 'Print help'
 complete -c msi -n __fish_use_subcommand -a tables -d 'Prints the cells of both controller tables, one a line'
 complete -c msi -n '__fish_seen_subcommand_from tables' -l protocol -d 'The controllers'\'' protocol, msi or msi+e [default: msi]' -x -a 'msi msi+e'
 complete -c msi -n '__fish_seen_subcommand_from tables' -l tables -d 'A file of cells, in JSON, in place of the protocol'\''s own' -r -F
+complete -c msi -n '__fish_seen_subcommand_from tables' -l changes -d 'Prints the changed cells alone, in JSON, for --tables'
 complete -c msi -n '__fish_seen_subcommand_from tables' -l explain -d 'Tells on standard error where a text is refused, and why'
 complete -c msi -n '__fish_seen_subcommand_from tables' -l help -d 'Print help'
 complete -c msi -n __fish_use_subcommand -a certify -d 'Says whether tables are proved safe and never stuck, or why not'

@@ -152,7 +152,7 @@ const JSON: CommandOption = CommandOption {
 const CHANGES: CommandOption = CommandOption {
     name: "changes",
     value: "",
-    help: "Prints the cells that aren't the protocol's own, for --tables",
+    help: "Prints the changed cells alone, in JSON, for --tables",
     takes: Takes::Nothing,
     left_out: LeftOut::Nothing,
 };
