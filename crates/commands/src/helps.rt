@@ -123,12 +123,13 @@ Status: 0, but 1 where something is found; 2 wrong words or recording,
 3 device or memory.
 
 Example:
-  $ ./msi show --steps 1 < examples/recordings/load-without-asking.rec |
-      cut -c1-72
-  before step 0
-  block 0 home: I, owner none, sharers none, memory 0
-     step             outcome  cell           serves  changes
-  0  ask 0 0 store 7  sent     cache I Store          cache 0: I > IM^AD, pend"#;
+  $ ./msi show --tsv < examples/recordings/load-without-asking.rec |
+      cut -f 2-4 | tr '\t' '|'
+  step|outcome|cell
+  ask 0 0 store 7|sent|cache I Store
+  request 0 0|moved|directory I GetM
+  response 0 0|store 0 7|cache IM^AD Data-Dir-Zero
+  ask 1 0 load|load 1 0|cache I Load *"#;
 
 /// What stands behind the options of `msi chart`.
 pub const CHART: &str = r#"Standard input: a recording, as msi trial, play --recording and
