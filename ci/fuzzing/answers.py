@@ -19,6 +19,7 @@ PLACE = rb"(cache \d+|directory)"
 VIOLATION = (
     rb"(blank " + PLACE + rb"|second writer \d+ \d+|writer \d+ beside reader \d+|stale load got \d+ due \d+) block \d+"
 )
+WAITS = b"msi: msi show and msi chart of the recording tell what waits\n"
 RESULT = rb"((quiet|cut|stuck) \d+|broke \d+ " + VIOLATION + rb")"
 CELL = rb"cell (cache|directory) \S+ \S+ (blank|stall|act( \S+){1,9})"
 RECORDING = (
@@ -54,7 +55,7 @@ FORMS = {
     "chart": rb"[ -~]*",
 }
 TOLD = {
-    "trial": rb"verdict " + RESULT + rb"\n",
+    "trial": rb"verdict " + RESULT + rb"\n(?:" + WAITS + rb")?",
     "batch": rb"(msi: \d+ of \d+ trials, \d+ steps, \d+ broke, \d+ stuck\n)*(\S+ trial( --\w+ \S+)+\n)?",
     RECORDED: rb"(" + RACED + rb")\n",
     PLAYED: rb"(" + RACED + rb")\n",
@@ -219,7 +220,8 @@ def of_trial(shape, tables, text, setup):
     seed, number, limit = setup
     entries, verdict = trial(shape, tables, tree_of(value_of(text)), seed, number, limit)
     recording = text_of(shape, tables, [0] * shape[1], entries)
-    return Answer(int(verdict.startswith("broke")), recording.encode(), f"verdict {verdict}\n".encode())
+    waits = WAITS if verdict.startswith("stuck") else b""
+    return Answer(int(verdict.startswith("broke")), recording.encode(), f"verdict {verdict}\n".encode() + waits)
 
 
 def of_batch(shape, tables, text, setup):
