@@ -9,8 +9,8 @@ from pathlib import Path
 TOP = Path(__file__).resolve().parent.parent
 REFUSED, DEVICE, STOPPED, INTERRUPTED = 2, 3, 70, 130
 WEEK = 7 * 24 * 60 * 60
-# The commands that read standard input, and the option that names a file.
-READERS = ("play", "trial", "batch", "replay", "move", "show", "chart", "floor", "check")
+HELP = TOP / "run" / "help"
+# The option that names a file.
 OPTION = "--tables"
 # The last line of rt, and those that it may write before it, behind all that the program wrote on standard error.
 OF_RUN = re.compile(rb"(?:^(?:interpreter|checked|races): .*\n)*^run=(?:ended status=(\d+)|.*) .*\n\Z", re.M)
@@ -27,7 +27,14 @@ def stop(why, status=STOPPED):
 
 def commands():
     """The commands of msi, each of which has a text of help."""
-    return {it.name for it in (TOP / "run" / "help").iterdir() if it.name.islower()}
+    return {it.name for it in HELP.iterdir() if it.name.islower()}
+
+
+def reads_input(words):
+    """Whether these words have msi read standard input, as the command's help says of it."""
+    if not words or words[0] not in commands() or {"-h", "--help"} & {*words}:
+        return False
+    return "\nStandard input: " in (HELP / words[0]).read_text(encoding="utf-8")
 
 
 def file_words(words):

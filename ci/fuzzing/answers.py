@@ -12,14 +12,13 @@ from model.refusals import OVERRIDES, SCENARIOS, fault_of_overrides, fault_of_sc
 from model.replays import recording_of, replayed
 from model.tables import baseline, overridden
 from model.texts import lines_of, step_of, value_of
-from model.trials import tree_of, trial
+from model.trials import WAITS, tree_of, trial
 
 OUTCOME = rb"(sent|moved|held|absent|idle|blank|broken|(load|store) \d+ \d+)"
 PLACE = rb"(cache \d+|directory)"
 VIOLATION = (
     rb"(blank " + PLACE + rb"|second writer \d+ \d+|writer \d+ beside reader \d+|stale load got \d+ due \d+) block \d+"
 )
-WAITS = b"msi: msi show and msi chart of the recording tell what waits\n"
 RESULT = rb"((quiet|cut|stuck) \d+|broke \d+ " + VIOLATION + rb")"
 CELL = rb"cell (cache|directory) \S+ \S+ (blank|stall|act( \S+){1,9})"
 RECORDING = (
@@ -55,7 +54,7 @@ FORMS = {
     "chart": rb"[ -~]*",
 }
 TOLD = {
-    "trial": rb"verdict " + RESULT + rb"\n(?:" + WAITS + rb")?",
+    "trial": rb"verdict " + RESULT + rb"\n(?:" + WAITS.encode() + rb"\n)?",
     "batch": rb"(msi: \d+ of \d+ trials, \d+ steps, \d+ broke, \d+ stuck\n)*(\S+ trial( --\w+ \S+)+\n)?",
     RECORDED: rb"(" + RACED + rb")\n",
     PLAYED: rb"(" + RACED + rb")\n",
@@ -220,8 +219,8 @@ def of_trial(shape, tables, text, setup):
     seed, number, limit = setup
     entries, verdict = trial(shape, tables, tree_of(value_of(text)), seed, number, limit)
     recording = text_of(shape, tables, [0] * shape[1], entries)
-    waits = WAITS if verdict.startswith("stuck") else b""
-    return Answer(int(verdict.startswith("broke")), recording.encode(), f"verdict {verdict}\n".encode() + waits)
+    told = lines([f"verdict {verdict}", *[WAITS] * verdict.startswith("stuck")])
+    return Answer(int(verdict.startswith("broke")), recording.encode(), told)
 
 
 def of_batch(shape, tables, text, setup):

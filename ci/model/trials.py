@@ -5,6 +5,8 @@ from dataclasses import dataclass
 from model.machine import Ask, Delivery, Watched
 
 WORD, STATE = 2**32, 2**64
+# What msi tells on standard error behind the verdict of a trial that got stuck.
+WAITS = "msi: msi show and msi chart of the recording tell what waits"
 
 
 class Dice:
