@@ -7,7 +7,7 @@ use Rattle.std.proofs.lemmas.List.{ext_get_or, get_or-set_other, length-set, set
 use Rattle.base.specs.declared.ids.CacheId.{CacheId}
 use Rattle.network.specs.declared.message.Forward.{Forward}
 use Rattle.network.specs.Traffic.{Traffic, all_sent}
-use Rattle.network.proofs.Sending.{all_sent-append}
+use Rattle.network.proofs.Sending.{all_marks_added-append, all_sent-append}
 use Rattle.cache_table.specs.declared.actions.CacheAction.{CacheAction}
 use Rattle.cache_table.specs.declared.actions.CacheAction.TheVariants as action
 use Rattle.control.specs.LineEffect.{line_message, line_messages}
@@ -23,7 +23,7 @@ use Rattle.machine.specs.Transition.{Transition, carried_out}
 use Rattle.machine.specs.declared.decision.Decision.{Decision}
 use Rattle.machine.specs.declared.decision.Decision.TheVariants.{Refused, AtLine, AtHome}
 use Rattle.blocks.specs.View.{moved_to}
-use Rattle.network.specs.Marks.{Marks}
+use Rattle.network.specs.Marks.{Marks, all_marks_added}
 use Rattle.blocks.proofs.LinkMarks.{links-other, links_stall-at, links_stall-length, links_stall-set}
 
 -- ---- what a line sends goes on no link
@@ -47,6 +47,27 @@ messages-links cache value to (a ∷ actions) w =
     ap (λ (t : Traffic). t.links) (all_sent-append (line_message cache value to a) (line_messages cache value to actions) w)
     ∙ messages-links cache value to actions (all_sent (line_message cache value to a) w)
     ∙ message-links cache value to a w
+
+-- and neither do their marks
+message-marks : (cache : CacheId) (value : ℕ) (to : Option CacheId) (a : CacheAction) (m : Marks) →
+    (all_marks_added (line_message cache value to a) m).links ≡ m.links
+message-marks cache value to action.GetS m = refl
+message-marks cache value to action.GetM m = refl
+message-marks cache value to action.PutS m = refl
+message-marks cache value to action.PutM m = refl
+message-marks cache value (Some t) action.InvAck m = refl
+message-marks cache value (Some t) action.DataReq m = refl
+message-marks cache value None action.InvAck m = refl
+message-marks cache value None action.DataReq m = refl
+message-marks cache value to action.DataDir m = refl
+
+pub messages-marks : (cache : CacheId) (value : ℕ) (to : Option CacheId) (actions : List CacheAction) (m : Marks) →
+    (all_marks_added (line_messages cache value to actions) m).links ≡ m.links
+messages-marks cache value to [] m = refl
+messages-marks cache value to (a ∷ actions) m =
+    ap (λ (n : Marks). n.links) (all_marks_added-append (line_message cache value to a) (line_messages cache value to actions) m)
+    ∙ messages-marks cache value to actions (all_marks_added (line_message cache value to a) m)
+    ∙ message-marks cache value to a m
 
 -- ---- one link is another
 

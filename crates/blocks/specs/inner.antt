@@ -5,3 +5,4 @@ pub mod Linking
 pub mod Asked
 pub mod OwnLine
 pub mod Told
+pub mod Performing

@@ -36,7 +36,7 @@ pub struct Block {
 
 impl Drop for Block {
     fn drop(self) {
-        // Whoever drops one has a call to prove, and not the drops of all its parts.
+        // One call drops all its parts.
         let Block {
             lines: _,
             home: _,

@@ -1,14 +1,19 @@
 -- What is answered of changed tables.
 use Rattle.std.specs.Prelude.{◌≡◌, ◌⊎◌, ◌<◌, ℕ, List, length, Some, slice_get}
+use Rattle.base.specs.Extent.{Extent, IsWithinLimits}
 use Rattle.base.specs.declared.controller.entry.CellEntry.TheVariants.{Blank, Stall}
+use Rattle.base.specs.declared.step.Step.{Step}
 use Rattle.cache_table.specs.Table as cache_table
 use Rattle.directory_table.specs.Table as directory_table
 use Rattle.tables.specs.CellPlaces.{all_places}
 use Rattle.tables.specs.Tables.{Tables, baseline_of}
 use Rattle.tables.specs.declared.cell_places.CellPlace.{CellPlace}
 use Rattle.tables.specs.declared.cell_places.CellPlace.TheVariants.{Cache, Directory}
+use Rattle.machine.specs.Coherence.{Met, Safe}
 use Rattle.machine.specs.Going.{AreNeverStuck, KeepsGoing, MayWait, MayWaitAtHome, IsSettled}
+use Rattle.machine.specs.Machine.{after, opened}
 use Rattle.machine.specs.Restraint.{AreRestrained}
+use Rattle.machine.specs.Unstuck.{Flowing, Unstuck}
 use Rattle.pairs.specs.declared.pair.Pair.{Pair}
 use Rattle.closing.specs.Blamed.{HasFlow}
 use Rattle.closing.specs.Closed.{Closed}
@@ -83,3 +88,16 @@ abbrev pub SaysNeverStuck : Certificate → Type 0
 SaysNeverStuck NeverStuck = Unit {0}
 SaysNeverStuck (ClosedPairs cell count by_pairs.NeverStuck) = Unit {0}
 SaysNeverStuck other = ⊥
+
+-- what an answer says holds of each run under the tables: it is safe, comes to no cell where the protocol's own is blank, and leads to no state
+-- in which a message is stuck, or anything
+pub record HoldsOfRuns (tables : Tables) (certificate : Certificate) : Type 0 where
+  pub safe : SaysSafe certificate → (shape : Extent) (opening : List ℕ) (steps : List Step) →
+      IsWithinLimits shape → length opening ≡ shape.blocks → Safe shape tables opening steps
+  pub never_met : SaysRestrained certificate → (shape : Extent) (opening : List ℕ) (steps : List Step) (step : Step) →
+      IsWithinLimits shape → length opening ≡ shape.blocks →
+      ¬ Met (baseline_of tables.protocol) (after tables (opened shape opening) steps).state step
+  pub flowing : SaysFlowing certificate → (shape : Extent) (opening : List ℕ) (steps : List Step) →
+      IsWithinLimits shape → length opening ≡ shape.blocks → Flowing tables (after tables (opened shape opening) steps).state
+  pub unstuck : SaysNeverStuck certificate → (shape : Extent) (opening : List ℕ) (steps : List Step) →
+      IsWithinLimits shape → length opening ≡ shape.blocks → Unstuck tables (after tables (opened shape opening) steps).state

@@ -1,16 +1,11 @@
 //! The certificate of changed tables.
 
-ghost use Rattle.std.specs.Prelude.{◌≡◌, ◌↔◌, ℕ, List, length, IfNone, IfSome, MatchBool};
-ghost use Rattle.base.specs.Extent.{Extent, IsWithinLimits};
-ghost use Rattle.base.specs.declared.step.Step.{Step};
+ghost use Rattle.std.specs.Prelude.{◌≡◌, ◌↔◌, IfNone, IfSome, MatchBool};
 ghost use Rattle.tables.specs.Tables.{baseline_of};
 ghost use Rattle.tables.specs.declared.cell_places.CellPlace.{CellPlace};
-ghost use Rattle.machine.specs.Coherence.{Met, Safe};
 ghost use Rattle.machine.specs.Going.{KeepsGoing};
-ghost use Rattle.machine.specs.Machine.{after, opened};
 ghost use Rattle.machine.specs.Restraint.{AreRestrained};
-ghost use Rattle.machine.specs.Unstuck.{Flowing, Unstuck};
-ghost use Rattle.certify.specs.Certificates.{IsCertificate, SaysSafe, SaysFlowing, SaysNeverStuck, SaysRestrained, IsFirstAgainst};
+ghost use Rattle.certify.specs.Certificates.{HoldsOfRuns, IsCertificate, IsFirstAgainst, SaysRestrained};
 ghost use Rattle.certify.specs.Standings.{IsAdmitted};
 ghost use Rattle.certify.specs.inner.Demands.{Meets};
 
@@ -48,15 +43,7 @@ pub enum Certificate {
 pub fn certify(alloc: Global, tables: &Tables) -> Certificate
     ensures answer { IsCertificate tables.now result }
     ensures restrained { SaysRestrained result ↔ AreRestrained tables.now }
-    ensures safe { SaysSafe result → (shape : Extent) (opening : List ℕ) (steps : List Step) →
-        IsWithinLimits shape → length opening ≡ shape.blocks → Safe shape tables.now opening steps }
-    ensures never_met { SaysRestrained result → (shape : Extent) (opening : List ℕ) (steps : List Step) (step : Step) →
-        IsWithinLimits shape → length opening ≡ shape.blocks →
-        ¬ Met (baseline_of tables.now.protocol) (after tables.now (opened shape opening) steps).state step }
-    ensures flowing { SaysFlowing result → (shape : Extent) (opening : List ℕ) (steps : List Step) →
-        IsWithinLimits shape → length opening ≡ shape.blocks → Flowing tables.now (after tables.now (opened shape opening) steps).state }
-    ensures unstuck { SaysNeverStuck result → (shape : Extent) (opening : List ℕ) (steps : List Step) →
-        IsWithinLimits shape → length opening ≡ shape.blocks → Unstuck tables.now (after tables.now (opened shape opening) steps).state }
+    ensures runs { HoldsOfRuns tables.now result }
 {
     restrained_tables_are_safe();
     certified_tables_are_safe();

@@ -61,7 +61,7 @@ pub struct Layout {
 
 impl Drop for Layout {
     fn drop(self) {
-        // Whoever drops one has a call to prove, and not the drops of all its parts.
+        // One call drops all its parts.
         let Layout {
             lanes: _,
             first: _,

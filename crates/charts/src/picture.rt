@@ -31,7 +31,7 @@ pub struct Picture {
 
 impl Drop for Picture {
     fn drop(self) {
-        // Whoever drops one has a call to prove, and not the drops of all its parts.
+        // One call drops all its parts.
         let Picture {
             rows: _,
             numbers: _,

@@ -2,12 +2,10 @@
 
 ghost use Rattle.std.specs.Prelude.{◌≡◌, ◌≤◌, ℕ, Bool, IsTrue, Some, length, slice_get, true};
 ghost use Rattle.std.specs.Global.{Vec};
-ghost use Rattle.pairs.specs.Marking.{IsMarked};
-ghost use Rattle.pairs.specs.Pairs.{is_few};
-ghost use Rattle.pairs.specs.Sights.{home_data_seen};
+ghost use Rattle.pairs.specs.Marking.{CanBeFollowed};
 ghost use Rattle.closing.specs.declared.following.Followed.{Followed};
 ghost use Rattle.closing.specs.Ranked as ranks;
-ghost use Rattle.closing.specs.inner.Told.{AreBalanced, IsBalanced, KeepsBalanceIn};
+ghost use Rattle.closing.specs.inner.Told.{AllKeepBalance, AreBalanced, HomeKeepsBalance, IsBalanced, KeepsBalanceIn};
 
 use crate::following::Followed;
 use crate::ranked::RankedPair;
@@ -56,9 +54,8 @@ fn is_balanced(tables: &Tables, pair: &Pair, steps: &[Followed]) -> bool
 
 /// Whether Data that comes to the home of a pair keeps the balance.
 fn home_is_balanced(tables: &Tables, pair: &Pair) -> bool
-    requires few { is_few pair.now ≡ true }
-    requires marked { IsMarked pair.now }
-    ensures { IsTrue result → (t : Bool) → KeepsBalanceIn pair.now (home_data_seen tables.now t pair.now) }
+    requires { CanBeFollowed pair.now }
+    ensures { IsTrue result → HomeKeepsBalance tables.now pair.now }
 {
     sight_is_balanced(pair, &home_data_seen(tables, false, pair))
         & sight_is_balanced(pair, &home_data_seen(tables, true, pair))
@@ -76,7 +73,7 @@ fn sight_is_balanced(pair: &Pair, sight: &Sight) -> bool
 
 /// Whether these steps of a pair do.
 fn steps_are_balanced(pair: &Pair, steps: &[Followed]) -> bool
-    ensures { IsTrue result → (k : ℕ) (f : Followed) → slice_get steps.now k ≡ Some f → ranks.KeepsBalance f.concerned pair.now f.after }
+    ensures { IsTrue result → AllKeepBalance pair.now steps.now }
 {
     for step in steps {
         if !keeps_balance(step.concerned, pair, &step.after) {

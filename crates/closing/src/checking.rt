@@ -1,12 +1,8 @@
 //! Whether no step leaves a list of ranked pairs.
 
-ghost use Rattle.std.specs.Prelude.{◌≡◌, ◌⊎◌, ℕ, Bool, Contains, IfOk, IfSome, IsTrue, Some, false, slice_get, true};
-ghost use Rattle.control.specs.LineEffect.{is_reader, is_writer};
-ghost use Rattle.pairs.specs.Marking.{IsMarked};
-ghost use Rattle.pairs.specs.Pairs.{is_few};
-ghost use Rattle.pairs.specs.Sights.{home_data_seen};
-ghost use Rattle.closing.specs.declared.following.Followed.{Followed};
-ghost use Rattle.closing.specs.inner.Told.{AreSound, AreTold, IsFollowedBy, IsSound, Keeps, LeadsInto, Stays};
+ghost use Rattle.std.specs.Prelude.{◌≡◌, ◌⊎◌, Contains, IfOk, IfSome, IsTrue};
+ghost use Rattle.pairs.specs.Marking.{CanBeFollowed};
+ghost use Rattle.closing.specs.inner.Told.{AllLeadInto, AreSound, AreTold, HomeStays, IsFollowedBy, IsSingle, IsSound, Keeps, LeadsInto, Stays};
 
 use crate::following::{Breach, Followed, steps_of};
 use crate::glueing::are_glued;
@@ -70,16 +66,15 @@ fn is_sound(tables: &Tables, list: &[RankedPair], index: &Index, ranked: &Ranked
 
 /// Whether no writer stands beside a reader.
 fn is_single(pair: &Pair) -> bool
-    ensures { IsTrue result → is_writer pair.now.first.state ≡ true → is_reader pair.now.second.state ≡ false }
+    ensures { IsTrue result → IsSingle pair.now }
 {
     !(may_write(pair.first.state) & may_read(pair.second.state))
 }
 
 /// Whether a ranked pair stays among these where Data comes to the home.
 fn home_stays(tables: &Tables, list: &[RankedPair], index: &Index, ranked: &RankedPair) -> bool
-    requires few { is_few ranked.now.pair ≡ true }
-    requires marked { IsMarked ranked.now.pair }
-    ensures { IsTrue result → (t : Bool) → Stays list.now ranked.now (home_data_seen tables.now t ranked.now.pair) }
+    requires { CanBeFollowed ranked.now.pair }
+    ensures { IsTrue result → HomeStays tables.now list.now ranked.now }
 {
     let pair = &ranked.pair;
     stays(list, index, ranked, &home_data_seen(tables, false, pair))
@@ -120,7 +115,7 @@ fn leads(list: &[RankedPair], index: &Index, ranked: &RankedPair, step: &Followe
 
 /// Whether all steps do.
 fn all_lead(list: &[RankedPair], index: &Index, ranked: &RankedPair, steps: &[Followed]) -> bool
-    ensures { IsTrue result → (k : ℕ) (f : Followed) → slice_get steps.now k ≡ Some f → LeadsInto list.now ranked.now f }
+    ensures { IsTrue result → AllLeadInto list.now ranked.now steps.now }
 {
     for step in steps {
         if !leads(list, index, ranked, step) {

@@ -1,11 +1,9 @@
 //! What the first cache of a pair can do, and where that leads.
 
 ghost use Rattle.std.specs.Prelude.{◌≡◌, ◌↔◌, Bool, Contains, IfOk, IsTrue, OnOk, true};
-ghost use Rattle.closing.specs.declared.following.Followed.{Followed};
-ghost use Rattle.pairs.specs.Marking.{IsMarked};
-ghost use Rattle.pairs.specs.Pairs.{is_few};
+ghost use Rattle.pairs.specs.Marking.{CanBeFollowed};
 ghost use Rattle.pairs.specs.Sights as sights;
-ghost use Rattle.closing.specs.inner.Told.{IsTold, TellsAll};
+ghost use Rattle.closing.specs.inner.Told.{AreAmong, IsTold, TellsAll};
 
 use pairs::{Pair, Party, Rule, Sight, each_rule_is_listed, sight};
 use std::alloc::{AllocFailed, Global};
@@ -38,8 +36,7 @@ impl<T: Drop> From<AllocFailed<T>> for Breach {
 
 /// All steps of a pair's first cache.
 pub(crate) fn steps_of(alloc: Global, tables: &Tables, pair: &Pair) -> Result<Vec<Followed>, Breach>
-    requires few { is_few pair.now ≡ true }
-    requires marked { IsMarked pair.now }
+    requires { CanBeFollowed pair.now }
     ensures { IfOk result (λ steps. TellsAll tables.now pair.now steps.items) }
 {
     each_rule_is_listed();
@@ -57,11 +54,10 @@ fn tell_rule(
     rule: Rule,
     steps: &mut Vec<Followed>,
 ) -> Result<(), Breach>
-    requires few { is_few pair.now ≡ true }
-    requires marked { IsMarked pair.now }
+    requires { CanBeFollowed pair.now }
     ensures told { OnOk result ((guess : Bool) →
         IsTold steps.new.items rule (sights.sight tables.now rule guess pair.now)) }
-    ensures kept { OnOk result ((f : Followed) → Contains steps.old.items f → Contains steps.new.items f) }
+    ensures kept { OnOk result (AreAmong steps.old.items steps.new.items) }
 {
     tell(steps, rule, sight(tables, rule, false, pair))?;
     tell(steps, rule, sight(tables, rule, true, pair))?;
@@ -71,7 +67,7 @@ fn tell_rule(
 /// Notes what comes of a rule.
 fn tell(steps: &mut Vec<Followed>, rule: Rule, seen: Sight) -> Result<(), Breach>
     ensures told { OnOk result (IsTold steps.new.items rule seen) }
-    ensures kept { OnOk result ((f : Followed) → Contains steps.old.items f → Contains steps.new.items f) }
+    ensures kept { OnOk result (AreAmong steps.old.items steps.new.items) }
 {
     match seen {
         Sight::Unmoved | Sight::Spoilt(Party::Third) => Ok(()),

@@ -2,9 +2,8 @@
 
 ghost use Rattle.std.specs.Prelude.{◌≡◌, ◌≤◌, ◌<◌, ◌↔◌, ℕ, IsTrue, Some, length, slice_get};
 ghost use Rattle.closing.specs.Closed as closed;
-ghost use Rattle.closing.specs.declared.following.Followed.{Followed};
 ghost use Rattle.closing.specs.declared.ranked.RankedPair.{RankedPair};
-ghost use Rattle.closing.specs.inner.Told.{AreOne, GlueTogether, Glues, GluesAt, GluesOver, GluesWith};
+ghost use Rattle.closing.specs.inner.Told.{AllGlueOver, AreOne, GlueTogether, Glues, GluesAt, GluesOver, GluesWith};
 
 use crate::following::Followed;
 use crate::index::{Index, is_listed};
@@ -143,8 +142,7 @@ fn is_glued_to(
     one: &Followed,
     theirs: &[Followed],
 ) -> bool
-    ensures { IsTrue result → (n : ℕ) (g : Followed) → slice_get theirs.now n ≡ Some g → AreOne one.now g →
-        GluesOver list.now numbers.now.seconds.items span second neighbour.now one.now g }
+    ensures { IsTrue result → AllGlueOver list.now numbers.now.seconds.items span second neighbour.now one.now theirs.now }
 {
     for other in theirs {
         if !may_be_glued(list, index, numbers, span, second, neighbour, one, other) {

@@ -1,7 +1,8 @@
 //! The changed cells of tables, as JSON that `--tables` reads.
 
 use crate::cells::text_of;
-use base::controller::MOST_ACTIONS;
+use crate::objects::{SPACED, print_cell};
+use base::controller::Side;
 use base::text::cut;
 use certify::{Standing, standing_beside};
 use command_output::{Fault, Finding, Printer};
@@ -29,14 +30,14 @@ pub fn print_changes<O: Write + Drop>(
 ) -> Result<Finding, Fault> {
     let mut printer = Printer::new(alloc, output)?;
     let own = Tables::baseline_of(tables.protocol());
-    let mut before: Option<&'static str> = None;
+    let mut before: Option<Side> = None;
     for number in 0..CELLS {
         let Some(cell) = CellPlace::at(number) else {
             continue;
         };
         if !matches!(standing_beside(tables, &own, cell), Standing::Own) {
             print_front(before, side_of(cell), &mut printer);
-            print_cell(text_of(tables, cell).as_slice(), &mut printer);
+            print_change(text_of(tables, cell).as_slice(), &mut printer);
             before = Some(side_of(cell));
         }
     }
@@ -44,19 +45,15 @@ pub fn print_changes<O: Write + Drop>(
     printer.finish(Ok(Finding::Nothing))
 }
 
-fn side_of(cell: CellPlace) -> &'static str {
+fn side_of(cell: CellPlace) -> Side {
     match cell {
-        CellPlace::Cache(..) => "cache",
-        CellPlace::Directory(..) => "directory",
+        CellPlace::Cache(..) => Side::Cache,
+        CellPlace::Directory(..) => Side::Directory,
     }
 }
 
 /// Prints what stands between the cell before, if there is one, and one of a side.
-fn print_front<O: Write + Drop>(
-    before: Option<&'static str>,
-    side: &'static str,
-    printer: &mut Printer<O>,
-) {
+fn print_front<O: Write + Drop>(before: Option<Side>, side: Side, printer: &mut Printer<O>) {
     let is_new = match before {
         None => {
             printer.bytes(FRONT.as_bytes());
@@ -72,57 +69,24 @@ fn print_front<O: Write + Drop>(
         }
     };
     if is_new {
-        printer.line(format_args!("  \"{side}\": ["));
+        let key: &str = match side {
+            Side::Cache => "cache",
+            Side::Directory => "directory",
+        };
+        printer.line(format_args!("  \"{key}\": ["));
     }
 }
 
-fn print_end<O: Write + Drop>(before: Option<&'static str>, printer: &mut Printer<O>) {
+fn print_end<O: Write + Drop>(before: Option<Side>, printer: &mut Printer<O>) {
     let end = if before.is_some() { END } else { NO_CHANGES };
     printer.bytes(end.as_bytes());
 }
 
 /// Prints a cell, which is spelled as `msi tables` does it. No word of it is escaped in JSON.
-fn print_cell<O: Write + Drop>(cell: &[u8], printer: &mut Printer<O>) {
+fn print_change<O: Write + Drop>(cell: &[u8], printer: &mut Printer<O>) {
     let (_, rest) = cut(cell);
     let (_, rest) = cut(rest.unwrap_or(b""));
-    let rest = print_word("    { \"state\": \"", rest, printer);
-    let rest = print_word("\", \"event\": \"", rest, printer);
-    printer.bytes(b"\", \"entry\": ");
-    let (kind, rest) = cut(rest.unwrap_or(b""));
-    match rest {
-        None => {
-            print_word("\"", Some(kind), printer);
-            printer.bytes(b"\"");
-        }
-        Some(rest) => print_act(rest, printer),
-    }
+    printer.bytes(b"    { \"state\": \"");
+    print_cell(rest, &SPACED, printer);
     printer.bytes(b" }");
-}
-
-/// Prints this and the first word of a text, and answers what stands behind it.
-fn print_word<'t, O: Write + Drop>(
-    front: &str,
-    text: Option<&'t [u8]>,
-    printer: &mut Printer<O>,
-) -> Option<&'t [u8]> {
-    let (word, rest) = cut(text.unwrap_or(b""));
-    printer.bytes(front.as_bytes());
-    printer.bytes(word);
-    rest
-}
-
-/// Prints the next state and the actions.
-fn print_act<O: Write + Drop>(text: &[u8], printer: &mut Printer<O>) {
-    let mut rest = print_word("{ \"next\": \"", Some(text), printer);
-    printer.bytes(b"\", \"do\": [");
-    let mut front = "\"";
-    for _ in 0..MOST_ACTIONS {
-        if rest.is_none() {
-            break;
-        }
-        rest = print_word(front, rest, printer);
-        printer.bytes(b"\"");
-        front = ", \"";
-    }
-    printer.bytes(b"] }");
 }

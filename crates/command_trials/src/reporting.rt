@@ -101,7 +101,7 @@ pub struct Report<O: Write + Drop, E: Write + Drop> {
 
 impl<O: Write + Drop, E: Write + Drop> Drop for Report<O, E> {
     fn drop(self) {
-        // Whoever drops one has a call to prove, and not the drops of all its parts.
+        // One call drops all its parts.
         let Report {
             printer: _,
             errors: _,

@@ -3,5 +3,4 @@ pub mod HomeCounts
 pub mod HomeLinks
 pub mod Reaching
 pub mod LineSends
-pub mod Fronts
 mod Shared

@@ -1,3 +1,4 @@
+pub mod Acts
 pub mod HomeEvents
 pub mod HomeEffect
 pub mod inner

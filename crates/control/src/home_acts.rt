@@ -1,9 +1,8 @@
-ghost use Rattle.std.specs.Prelude.{◌≡◌, ◌<◌, ℕ, IsOk, OnOk, OnErr, Some, true, length};
-ghost use Rattle.network.specs.Traffic.{all_sent};
-ghost use Rattle.network.specs.Marks.{all_marks_added};
-ghost use Rattle.network.specs.Room.{HasRoomFor, UsesRoomFor};
+ghost use Rattle.std.specs.Prelude.{◌≡◌, ◌<◌, ℕ, [], IsOk, MatchResult, Some, true, length};
+ghost use Rattle.network.specs.Room.{HasRoomFor, Sends};
+ghost use Rattle.control.specs.Acts.{HasFlagsAndLinks, HomeActs};
 ghost use Rattle.control.specs.HomeEffect.{sender_of, brought_by, data_message, exclusive_message, link_message, invalidation, invalidations, owner_message};
-ghost use Rattle.control.specs.HomeEffect.{home_message, home_changed, home_messages, home_moved, home_after, home_sends};
+ghost use Rattle.control.specs.HomeEffect.{home_message, home_changed, home_messages, home_moved, home_sends};
 ghost use Rattle.control.specs.Homes.{IsBelow, NamesBelow};
 ghost use Rattle.control.specs.Sharing.{shares};
 
@@ -62,9 +61,7 @@ fn on_link(to: CacheId, kind: ForwardKind, requestor: CacheId) -> Message
 fn invalidate(sharers: &Sharers, requestor: CacheId, wires: &mut Wires)
     requires links { (k : ℕ) → shares sharers.now k ≡ true → k < length wires.old.traffic.links }
     requires room { HasRoomFor (invalidations requestor 0 sharers.now) wires.old.room }
-    ensures traffic { wires.new.traffic ≡ all_sent (invalidations requestor 0 sharers.now) wires.old.traffic }
-    ensures marks { wires.new.marks ≡ all_marks_added (invalidations requestor 0 sharers.now) wires.old.marks }
-    ensures room { UsesRoomFor (invalidations requestor 0 sharers.now) wires.old.room wires.new.room }
+    ensures { Sends (invalidations requestor 0 sharers.now) wires.old wires.new }
 {
     // No cache has the largest number, so the number after a sharer's fits.
     let caches = sharers.caches();
@@ -82,9 +79,7 @@ fn invalidate(sharers: &Sharers, requestor: CacheId, wires: &mut Wires)
 fn invalidate_one(cache: CacheId, sharer: bool, requestor: CacheId, wires: &mut Wires)
     requires link { sharer ≡ true → cache.0 < length wires.old.traffic.links }
     requires room { HasRoomFor (invalidation requestor cache sharer) wires.old.room }
-    ensures traffic { wires.new.traffic ≡ all_sent (invalidation requestor cache sharer) wires.old.traffic }
-    ensures marks { wires.new.marks ≡ all_marks_added (invalidation requestor cache sharer) wires.old.marks }
-    ensures room { UsesRoomFor (invalidation requestor cache sharer) wires.old.room wires.new.room }
+    ensures { Sends (invalidation requestor cache sharer) wires.old wires.new }
 {
     if sharer && cache != requestor {
         wires.place(on_link(cache, ForwardKind::Inv, requestor));
@@ -95,9 +90,7 @@ fn invalidate_one(cache: CacheId, sharer: bool, requestor: CacheId, wires: &mut 
 fn to_owner(owner: Option<CacheId>, kind: ForwardKind, requestor: CacheId, wires: &mut Wires)
     requires owner { IsBelow owner (length wires.old.traffic.links) }
     requires room { HasRoomFor (owner_message owner kind requestor) wires.old.room }
-    ensures traffic { wires.new.traffic ≡ all_sent (owner_message owner kind requestor) wires.old.traffic }
-    ensures marks { wires.new.marks ≡ all_marks_added (owner_message owner kind requestor) wires.old.marks }
-    ensures room { UsesRoomFor (owner_message owner kind requestor) wires.old.room wires.new.room }
+    ensures { Sends (owner_message owner kind requestor) wires.old wires.new }
 {
     if let Some(owner) = owner {
         wires.place(on_link(owner, kind, requestor));
@@ -109,9 +102,7 @@ fn send(home: &Home, action: DirectoryAction, to: CacheId, wires: &mut Wires)
     requires links { NamesBelow (length wires.old.traffic.links) home.now }
     requires sender { to.0 < length wires.old.traffic.links }
     requires room { HasRoomFor (home_message (Some to) action home.now) wires.old.room }
-    ensures traffic { wires.new.traffic ≡ all_sent (home_message (Some to) action home.now) wires.old.traffic }
-    ensures marks { wires.new.marks ≡ all_marks_added (home_message (Some to) action home.now) wires.old.marks }
-    ensures room { UsesRoomFor (home_message (Some to) action home.now) wires.old.room wires.new.room }
+    ensures { Sends (home_message (Some to) action home.now) wires.old wires.new }
 {
     match action {
         DirectoryAction::DataReq => wires.place(data(to, home.memory, 0)),
@@ -173,16 +164,10 @@ fn perform_all(
     value: Option<u64>,
     wires: &mut Wires,
 )
-    requires flags { NamesBelow (length home.old.sharers) home.old }
-    requires links { NamesBelow (length wires.old.traffic.links) home.old }
-    requires sender_flag { IsBelow from (length home.old.sharers) }
-    requires sender_link { IsBelow from (length wires.old.traffic.links) }
+    requires named { HasFlagsAndLinks from home.old wires.old }
     requires room { HasRoomFor (home_messages from value actions.now home.old) wires.old.room }
     ensures home { home.new ≡ home_moved from value actions.now home.old }
-    ensures flags { length home.new.sharers ≡ length home.old.sharers }
-    ensures named { (caches : ℕ) → NamesBelow caches home.old → IsBelow from caches → NamesBelow caches home.new }
-    ensures traffic { wires.new.traffic ≡ all_sent (home_messages from value actions.now home.old) wires.old.traffic }
-    ensures marks { wires.new.marks ≡ all_marks_added (home_messages from value actions.now home.old) wires.old.marks }
+    ensures sent { Sends (home_messages from value actions.now home.old) wires.old wires.new }
 {
     for action in actions {
         perform(home, *action, from, value, wires);
@@ -197,15 +182,10 @@ fn perform(
     value: Option<u64>,
     wires: &mut Wires,
 )
-    requires flags { NamesBelow (length home.old.sharers) home.old }
-    requires links { NamesBelow (length wires.old.traffic.links) home.old }
-    requires sender_flag { IsBelow from (length home.old.sharers) }
-    requires sender_link { IsBelow from (length wires.old.traffic.links) }
+    requires named { HasFlagsAndLinks from home.old wires.old }
     requires room { HasRoomFor (home_message from action home.old) wires.old.room }
     ensures home { home.new ≡ home_changed from value action home.old }
-    ensures traffic { wires.new.traffic ≡ all_sent (home_message from action home.old) wires.old.traffic }
-    ensures marks { wires.new.marks ≡ all_marks_added (home_message from action home.old) wires.old.marks }
-    ensures room { UsesRoomFor (home_message from action home.old) wires.old.room wires.new.room }
+    ensures sent { Sends (home_message from action home.old) wires.old wires.new }
 {
     if let Some(to) = from {
         send(home, action, to, wires);
@@ -223,18 +203,9 @@ pub fn home_perform(
     actions: DirectoryActions,
     wires: &mut Wires,
 )
-    requires flags { NamesBelow (length home.old.sharers) home.old }
-    requires links { NamesBelow (length wires.old.traffic.links) home.old }
-    requires sender_flag { IsBelow (sender_of input) (length home.old.sharers) }
-    requires sender_link { IsBelow (sender_of input) (length wires.old.traffic.links) }
+    requires named { HasFlagsAndLinks (sender_of input) home.old wires.old }
     requires room { HasRoomFor (home_sends input actions home.old) wires.old.room }
-    ensures home { home.new ≡ home_after input next actions home.old }
-    ensures traffic { wires.new.traffic ≡ all_sent (home_sends input actions home.old) wires.old.traffic }
-    ensures marks { wires.new.marks ≡ all_marks_added (home_sends input actions home.old) wires.old.marks }
-    ensures flags { NamesBelow (length home.new.sharers) home.new }
-    ensures links { NamesBelow (length wires.new.traffic.links) home.new }
-    ensures flag_count { length home.new.sharers ≡ length home.old.sharers }
-    ensures link_count { length wires.new.traffic.links ≡ length wires.old.traffic.links }
+    ensures { HomeActs input next actions home.old wires.old home.new wires.new }
 {
     perform_all(
         home,
@@ -257,21 +228,10 @@ pub fn home_act(
     actions: DirectoryActions,
     wires: &mut Wires,
 ) -> Result<(), NoMemory>
-    requires flags { NamesBelow (length home.old.sharers) home.old }
-    requires links { NamesBelow (length wires.old.traffic.links) home.old }
-    requires sender_flag { IsBelow (sender_of input) (length home.old.sharers) }
-    requires sender_link { IsBelow (sender_of input) (length wires.old.traffic.links) }
-    ensures home { OnOk result (home.new ≡ home_after input next actions home.old) }
-    ensures traffic { OnOk result (wires.new.traffic ≡ all_sent (home_sends input actions home.old) wires.old.traffic) }
-    ensures marks { OnOk result (wires.new.marks ≡ all_marks_added (home_sends input actions home.old) wires.old.marks) }
+    requires { HasFlagsAndLinks (sender_of input) home.old wires.old }
+    ensures acted { MatchResult result (λ _. HomeActs input next actions home.old wires.old home.new wires.new)
+        (λ _. (home.new ≡ home.old) × Sends [] wires.old wires.new) }
     ensures succeeds { HasRoomFor (home_sends input actions home.old) wires.old.room → IsOk result }
-    ensures home_kept { OnErr result (home.new ≡ home.old) }
-    ensures traffic_kept { OnErr result (wires.new.traffic ≡ wires.old.traffic) }
-    ensures marks_kept { OnErr result (wires.new.marks ≡ wires.old.marks) }
-    ensures flags { NamesBelow (length home.new.sharers) home.new }
-    ensures links { NamesBelow (length wires.new.traffic.links) home.new }
-    ensures flag_count { length home.new.sharers ≡ length home.old.sharers }
-    ensures link_count { length wires.new.traffic.links ≡ length wires.old.traffic.links }
 {
     home_reserve(home, input, actions, wires)?;
     home_perform(home, input, next, actions, wires);

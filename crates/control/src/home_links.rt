@@ -1,8 +1,8 @@
-ghost use Rattle.std.specs.Prelude.{◌≡◌, ◌≤◌, ◌+◌, ◌++◌, ℕ, [], IsOk, IfOk, OnOk, OnErr, length, replicate, vec_len};
+ghost use Rattle.std.specs.Prelude.{◌≡◌, ◌≤◌, ◌+◌, ◌++◌, [], IsOk, IfOk, OnOk, OnErr, length, replicate, vec_len};
 ghost use Rattle.std.specs.Vec.{vec_capacity};
-ghost use Rattle.network.specs.Room.{AllBelow, forward_count, forwards_in, requests_in, responses_in, times};
-ghost use Rattle.control.specs.HomeEffect.{sender_of, home_sends};
-ghost use Rattle.control.specs.Homes.{IsBelow, NamesBelow};
+ghost use Rattle.network.specs.Room.{forward_count};
+ghost use Rattle.control.specs.Acts.{AreNeeds};
+ghost use Rattle.control.specs.HomeEffect.{home_sends};
 ghost use Rattle.control.specs.inner.HomeCounting.{unflagged, unflagged_owner, unflagged_sender, links_to_any, links_of};
 
 use crate::home::{Home, HomeInput};
@@ -22,10 +22,7 @@ pub fn home_needs(
     actions: DirectoryActions,
     links: &mut Vec<CacheId>,
 ) -> Result<Needs, NoMemory>
-    ensures requests { IfOk result (λ needs. requests_in (home_sends input actions home.now) ≡ needs.requests) }
-    ensures links { OnOk result ((cache : ℕ) → forwards_in cache (home_sends input actions home.now) ≡ times cache links.new.items) }
-    ensures responses { IfOk result (λ needs. responses_in (home_sends input actions home.now) ≡ needs.responses) }
-    ensures below { OnOk result ((caches : ℕ) → NamesBelow caches home.now → IsBelow (sender_of input) caches → AllBelow caches links.new.items) }
+    ensures ok { IfOk result (λ needs. AreNeeds input actions home.now needs links.new.items) }
     ensures succeeds { forward_count (home_sends input actions home.now) ≤ vec_capacity links.old → IsOk result }
     ensures kept { OnErr result (links.new.items ≡ links.old.items) }
 {

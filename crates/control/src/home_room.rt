@@ -1,8 +1,10 @@
-ghost use Rattle.std.specs.Prelude.{◌≡◌, ◌<◌, ◌≤◌, ℕ, [], IsOk, OnOk, length, true};
-ghost use Rattle.network.specs.Room.{HasRoomFor, UsesRoomFor};
+ghost use Rattle.std.specs.Prelude.{◌≡◌, ◌<◌, ◌≤◌, ℕ, length, true};
+ghost use Rattle.network.specs.Room.{HasRoomFor, MakesRoom};
+ghost use Rattle.control.specs.Acts.{HasFlagsAndLinks};
 ghost use Rattle.control.specs.HomeEffect.{sender_of, home_sends};
 ghost use Rattle.control.specs.Homes.{IsBelow, NamesBelow};
-ghost use Rattle.control.specs.inner.HomeCounting.{HasRoomOnLink, HasRoomToReply, HasRoomToOwner, HasRoomToSharers, invalidates, reaches_owner, reaches_sender};
+ghost use Rattle.control.specs.inner.HomeCounting.{HasRoomOnLink, HasRoomToReply, HasRoomToOwner, MakesRoomToSharers};
+ghost use Rattle.control.specs.inner.HomeCounting.{invalidates, reaches_owner, reaches_sender};
 ghost use Rattle.control.specs.Sharing.{shares};
 
 use crate::home::{Home, HomeInput};
@@ -21,14 +23,8 @@ pub fn home_reserve(
     actions: DirectoryActions,
     wires: &mut Wires,
 ) -> Result<(), NoMemory>
-    requires flags { NamesBelow (length home.now.sharers) home.now }
-    requires links { NamesBelow (length wires.old.traffic.links) home.now }
-    requires sender_flag { IsBelow (sender_of input) (length home.now.sharers) }
-    requires sender_link { IsBelow (sender_of input) (length wires.old.traffic.links) }
-    ensures traffic { wires.new.traffic ≡ wires.old.traffic }
-    ensures marks { wires.new.marks ≡ wires.old.marks }
-    ensures ok { OnOk result (HasRoomFor (home_sends input actions home.now) wires.new.room) }
-    ensures succeeds { HasRoomFor (home_sends input actions home.now) wires.old.room → IsOk result }
+    requires { HasFlagsAndLinks (sender_of input) home.now wires.old }
+    ensures { MakesRoom (HasRoomFor (home_sends input actions home.now)) result wires.old wires.new }
 {
     match input {
         HomeInput::Data(_) => Ok(()),
@@ -52,10 +48,7 @@ fn reserve_for(
     requires few { length actions.now ≤ 8 }
     requires links { NamesBelow (length wires.old.traffic.links) home.now }
     requires sender { from.0 < length wires.old.traffic.links }
-    ensures traffic { wires.new.traffic ≡ wires.old.traffic }
-    ensures marks { wires.new.marks ≡ wires.old.marks }
-    ensures ok { OnOk result (HasRoomToReply from actions.now home.now wires.new.room) }
-    ensures succeeds { HasRoomToReply from actions.now home.now wires.old.room → IsOk result }
+    ensures { MakesRoom (HasRoomToReply from actions.now home.now) result wires.old wires.new }
 {
     let reach = reach_of(actions);
     wires.reserve_ends(0, reach.replies)?;
@@ -76,11 +69,7 @@ fn reserve_for_sender(
     requires few { length actions.now ≤ 8 }
     requires reached { reached ≡ reaches_sender actions.now }
     requires link { from.0 < length wires.old.traffic.links }
-    ensures traffic { wires.new.traffic ≡ wires.old.traffic }
-    ensures marks { wires.new.marks ≡ wires.old.marks }
-    ensures ok { OnOk result (HasRoomOnLink from.0 from actions.now home.now wires.new.room) }
-    ensures succeeds { HasRoomOnLink from.0 from actions.now home.now wires.old.room → IsOk result }
-    ensures room { UsesRoomFor [] wires.old.room wires.new.room }
+    ensures { MakesRoom (HasRoomOnLink from.0 from actions.now home.now) result wires.old wires.new }
 {
     if !reached {
         return Ok(());
@@ -100,11 +89,7 @@ fn reserve_for_owner(
     requires few { length actions.now ≤ 8 }
     requires reached { reached ≡ reaches_owner actions.now }
     requires link { IsBelow home.now.owner (length wires.old.traffic.links) }
-    ensures traffic { wires.new.traffic ≡ wires.old.traffic }
-    ensures marks { wires.new.marks ≡ wires.old.marks }
-    ensures ok { OnOk result (HasRoomToOwner from actions.now home.now wires.new.room) }
-    ensures succeeds { HasRoomToOwner from actions.now home.now wires.old.room → IsOk result }
-    ensures room { UsesRoomFor [] wires.old.room wires.new.room }
+    ensures { MakesRoom (HasRoomToOwner from actions.now home.now) result wires.old wires.new }
 {
     if !reached {
         return Ok(());
@@ -130,11 +115,7 @@ fn reserve_for_sharers(
     requires few { length actions.now ≤ 8 }
     requires reached { reached ≡ invalidates actions.now }
     requires links { (k : ℕ) → shares home.now.sharers k ≡ true → k < length wires.old.traffic.links }
-    ensures traffic { wires.new.traffic ≡ wires.old.traffic }
-    ensures marks { wires.new.marks ≡ wires.old.marks }
-    ensures ok { OnOk result (HasRoomToSharers from actions.now home.now wires.new.room) }
-    ensures succeeds { ((k : ℕ) → HasRoomOnLink k from actions.now home.now wires.old.room) → IsOk result }
-    ensures room { UsesRoomFor [] wires.old.room wires.new.room }
+    ensures { MakesRoomToSharers from actions.now home.now result wires.old wires.new }
 {
     if !reached {
         return Ok(());
@@ -152,11 +133,7 @@ fn reserve_for_each_sharer(
 ) -> Result<(), NoMemory>
     requires few { length actions.now ≤ 8 }
     requires links { (k : ℕ) → shares home.now.sharers k ≡ true → k < length wires.old.traffic.links }
-    ensures traffic { wires.new.traffic ≡ wires.old.traffic }
-    ensures marks { wires.new.marks ≡ wires.old.marks }
-    ensures ok { OnOk result (HasRoomToSharers from actions.now home.now wires.new.room) }
-    ensures succeeds { ((k : ℕ) → HasRoomOnLink k from actions.now home.now wires.old.room) → IsOk result }
-    ensures room { UsesRoomFor [] wires.old.room wires.new.room }
+    ensures { MakesRoomToSharers from actions.now home.now result wires.old wires.new }
 {
     // No cache has the largest number, so the number after a sharer's fits.
     let caches = home.sharers.caches();

@@ -1,10 +1,9 @@
-ghost use Rattle.std.specs.Prelude.{◌≡◌, IsOk, IfOk, OnOk, OnErr, length, take};
+ghost use Rattle.std.specs.Prelude.{◌≡◌, [], IsOk, IfOk, OnErr};
 ghost use Rattle.network.specs.declared.message.Message.TheVariants as message;
 ghost use Rattle.network.specs.declared.message.Response.TheVariants as response;
-ghost use Rattle.network.specs.Traffic.{all_sent};
-ghost use Rattle.network.specs.Marks.{all_marks_added};
-ghost use Rattle.network.specs.Room.{HasRoomFor, UsesRoomFor};
-ghost use Rattle.control.specs.LineEffect.{line_message, line_messages, line_sends, line_after, line_completes};
+ghost use Rattle.network.specs.Room.{HasRoomFor, Sends};
+ghost use Rattle.control.specs.Acts.{LineActs, MakesRoomAtLine};
+ghost use Rattle.control.specs.LineEffect.{line_message, line_messages, line_sends};
 
 use crate::completing::{finish, move_on, settle};
 use crate::line::{Line, LineCompletion, LineInput};
@@ -31,14 +30,9 @@ fn data(from: CacheId, to: Place, value: u64) -> Message
 }
 
 /// Does one action of a line.
-#[tactic(auto, using(crate::proofs::Fronts::fronts))]
 fn send(action: CacheAction, cache: CacheId, value: u64, to: Option<CacheId>, wires: &mut Wires)
     requires { HasRoomFor (line_message cache value to action) wires.old.room }
-    ensures traffic { wires.new.traffic ≡ all_sent (line_message cache value to action) wires.old.traffic }
-    ensures marks { wires.new.marks ≡ all_marks_added (line_message cache value to action) wires.old.marks }
-    ensures room { UsesRoomFor (line_message cache value to action) wires.old.room wires.new.room }
-    ensures links { wires.new.marks.links ≡ wires.old.marks.links }
-    ensures requests { take (length wires.old.marks.requests) wires.new.marks.requests ≡ wires.old.marks.requests }
+    ensures { Sends (line_message cache value to action) wires.old wires.new }
 {
     match action {
         CacheAction::GetS => wires.place(request(RequestKind::GetS, cache)),
@@ -60,7 +54,6 @@ fn send(action: CacheAction, cache: CacheId, value: u64, to: Option<CacheId>, wi
 }
 
 /// Does the actions of a line in order.
-#[tactic(auto, using(crate::proofs::Fronts::fronts))]
 fn send_all(
     actions: &[CacheAction],
     cache: CacheId,
@@ -69,10 +62,7 @@ fn send_all(
     wires: &mut Wires,
 )
     requires { HasRoomFor (line_messages cache value to actions.now) wires.old.room }
-    ensures traffic { wires.new.traffic ≡ all_sent (line_messages cache value to actions.now) wires.old.traffic }
-    ensures marks { wires.new.marks ≡ all_marks_added (line_messages cache value to actions.now) wires.old.marks }
-    ensures links { wires.new.marks.links ≡ wires.old.marks.links }
-    ensures requests { take (length wires.old.marks.requests) wires.new.marks.requests ≡ wires.old.marks.requests }
+    ensures { Sends (line_messages cache value to actions.now) wires.old wires.new }
 {
     for action in actions {
         send(*action, cache, value, to, wires);
@@ -86,10 +76,7 @@ pub fn line_reserve(
     actions: CacheActions,
     wires: &mut Wires,
 ) -> Result<(), NoMemory>
-    ensures traffic { wires.new.traffic ≡ wires.old.traffic }
-    ensures marks { wires.new.marks ≡ wires.old.marks }
-    ensures ok { OnOk result ((cache : CacheId) (line : Line) → HasRoomFor (line_sends cache input actions line) wires.new.room) }
-    ensures succeeds { (cache : CacheId) (line : Line) → HasRoomFor (line_sends cache input actions line) wires.old.room → IsOk result }
+    ensures { MakesRoomAtLine input actions result wires.old wires.new }
 {
     // An action sends one request or one response at most, so mostly nothing has to be counted.
     if wires.ends_have_room(actions.len()) {
@@ -106,10 +93,7 @@ fn reserve_by_count(
     actions: CacheActions,
     wires: &mut Wires,
 ) -> Result<(), NoMemory>
-    ensures traffic { wires.new.traffic ≡ wires.old.traffic }
-    ensures marks { wires.new.marks ≡ wires.old.marks }
-    ensures ok { OnOk result ((cache : CacheId) (line : Line) → HasRoomFor (line_sends cache input actions line) wires.new.room) }
-    ensures succeeds { (cache : CacheId) (line : Line) → HasRoomFor (line_sends cache input actions line) wires.old.room → IsOk result }
+    ensures { MakesRoomAtLine input actions result wires.old wires.new }
 {
     reserve_counted(input, actions, wires)
 }
@@ -122,10 +106,7 @@ fn reserve_counted(
     actions: CacheActions,
     wires: &mut Wires,
 ) -> Result<(), NoMemory>
-    ensures traffic { wires.new.traffic ≡ wires.old.traffic }
-    ensures marks { wires.new.marks ≡ wires.old.marks }
-    ensures ok { OnOk result ((cache : CacheId) (line : Line) → HasRoomFor (line_sends cache input actions line) wires.new.room) }
-    ensures succeeds { (cache : CacheId) (line : Line) → HasRoomFor (line_sends cache input actions line) wires.old.room → IsOk result }
+    ensures { MakesRoomAtLine input actions result wires.old wires.new }
 {
     let needs = line_needs(input, actions);
     wires.reserve_ends(needs.requests, needs.responses)?;
@@ -143,12 +124,7 @@ pub fn line_perform(
     wires: &mut Wires,
 ) -> Option<LineCompletion>
     requires { HasRoomFor (line_sends cache input actions line.old) wires.old.room }
-    ensures done { result ≡ line_completes input next line.old }
-    ensures line { line.new ≡ line_after input next line.old }
-    ensures traffic { wires.new.traffic ≡ all_sent (line_sends cache input actions line.old) wires.old.traffic }
-    ensures marks { wires.new.marks ≡ all_marks_added (line_sends cache input actions line.old) wires.old.marks }
-    ensures links { wires.new.marks.links ≡ wires.old.marks.links }
-    ensures requests { take (length wires.old.marks.requests) wires.new.marks.requests ≡ wires.old.marks.requests }
+    ensures { LineActs cache input next actions line.old wires.old result line.new wires.new }
 {
     move_on(line, input, next);
     send_all(
@@ -174,14 +150,9 @@ pub fn line_act(
     actions: CacheActions,
     wires: &mut Wires,
 ) -> Result<Option<LineCompletion>, NoMemory>
-    ensures done { IfOk result (λ done. done ≡ line_completes input next line.old) }
-    ensures line { OnOk result (line.new ≡ line_after input next line.old) }
-    ensures traffic { OnOk result (wires.new.traffic ≡ all_sent (line_sends cache input actions line.old) wires.old.traffic) }
-    ensures marks { OnOk result (wires.new.marks ≡ all_marks_added (line_sends cache input actions line.old) wires.old.marks) }
+    ensures ok { IfOk result (λ done. LineActs cache input next actions line.old wires.old done line.new wires.new) }
+    ensures err { OnErr result ((line.new ≡ line.old) × Sends [] wires.old wires.new) }
     ensures succeeds { HasRoomFor (line_sends cache input actions line.old) wires.old.room → IsOk result }
-    ensures line_kept { OnErr result (line.new ≡ line.old) }
-    ensures traffic_kept { OnErr result (wires.new.traffic ≡ wires.old.traffic) }
-    ensures marks_kept { OnErr result (wires.new.marks ≡ wires.old.marks) }
 {
     line_reserve(input, actions, wires)?;
     Ok(line_perform(line, cache, input, next, actions, wires))

@@ -6,3 +6,4 @@ pub mod Passing
 pub mod Repeating
 pub mod Stock
 pub mod Wholes
+pub mod Calls

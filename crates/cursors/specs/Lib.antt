@@ -1,3 +1,4 @@
+pub mod Calls
 pub mod Cursors
 pub mod Repeats
 pub mod Stock

@@ -41,13 +41,11 @@ impl<'t, A: Allocator, B: Allocator> Cursor<'t, A, B> {
 }
 
 impl<'t, A: Allocator, B: Allocator> Cursor<'t, A, B> {
-    ghost use Rattle.std.specs.Prelude.{◌≤◌};
-    ghost use Rattle.cursors.specs.Cursors.{remaining, standing};
-    ghost use Rattle.cursors.specs.Repeats.{Repeats};
-    ghost use Rattle.cursors.specs.Stock.{FitsIn, Within, most_used, nodes, room};
-    ghost use Rattle.scenario.specs.Taking.{offers};
+    ghost use Rattle.cursors.specs.Calls.{Restarts};
+    ghost use Rattle.cursors.specs.Cursors.{remaining};
     ghost use Rattle.cursors.specs.Telling.{Tells};
-    ghost use Rattle.scenario.specs.Tree.{Tree, plain};
+    ghost use Rattle.scenario.specs.Taking.{offers};
+    ghost use Rattle.scenario.specs.Tree.{plain};
 
     /// What is offered next, where that is one ask at most and a look tells it.
     pub fn peek(&self) -> Next
@@ -59,11 +57,7 @@ impl<'t, A: Allocator, B: Allocator> Cursor<'t, A, B> {
     /// All of this tree is left from now on, whatever was. The parts that the cursor has are used again: it fits in every tree
     /// that it fitted in, if that has room for this one too.
     pub fn restart(&mut self, tree: &'t Scenario<A>)
-        ensures left { remaining self.new ≡ plain tree.entry.now }
-        ensures fits { FitsIn self.old (plain tree.entry.now) → FitsIn self.new (plain tree.entry.now) }
-        ensures fits_other { (other : Tree) → FitsIn self.old other →
-            Within (room (plain tree.entry.now)) (room other) → FitsIn self.new other }
-        ensures used { most_used (standing self.new) ≤ nodes (plain tree.entry.now) }
+        ensures { Restarts self.old (plain tree.entry.now) self.new }
     {
         self.in_turns = false;
         self.root.move_to(PartPlace::Whole(tree));
@@ -71,13 +65,11 @@ impl<'t, A: Allocator, B: Allocator> Cursor<'t, A, B> {
 }
 
 impl<'t, A: Allocator, B: Allocator + Clone> Cursor<'t, A, B> {
-    ghost use Rattle.std.specs.Prelude.{◌<◌, ◌≤◌, IfOk, OnErr, OnOk, length};
-    ghost use Rattle.scenario.specs.Alike.{Alike, Takes};
-    ghost use Rattle.cursors.specs.Cursors.{remaining, standing};
+    ghost use Rattle.std.specs.Prelude.{◌<◌, IfOk, length};
+    ghost use Rattle.cursors.specs.Calls.{Passes};
+    ghost use Rattle.cursors.specs.Cursors.{remaining};
     ghost use Rattle.cursors.specs.Repeats.{Repeats};
-    ghost use Rattle.cursors.specs.Stock.{FitsIn, most_used};
-    ghost use Rattle.scenario.specs.Taking.{left, offers};
-    ghost use Rattle.scenario.specs.Tree.{Tree};
+    ghost use Rattle.scenario.specs.Taking.{offers};
 
     /// Takes offer `at`, counted from 0 in the order of [`Rest::offers`](scenario::Rest::offers), which there has to be, without a look
     /// at its ask.
@@ -85,10 +77,7 @@ impl<'t, A: Allocator, B: Allocator + Clone> Cursor<'t, A, B> {
     /// What is made anew is `alloc`'s. Where memory is refused, nothing has changed.
     pub fn pass(&mut self, alloc: B, at: usize) -> Result<(), NoMemory>
         requires { at < length (offers (remaining self.old)) }
-        ensures ok { OnOk result (Alike (remaining self.new) (left (remaining self.old) at)) }
-        ensures err { OnErr result (remaining self.new ≡ remaining self.old) }
-        ensures fits { (tree : Tree) → FitsIn self.old tree → FitsIn self.new tree }
-        ensures used { most_used (standing self.new) ≤ most_used (standing self.old) }
+        ensures { Passes self.old at result self.new }
     {
         if pass_at_once(&mut self.root, at) {
             return Ok(());
@@ -105,11 +94,8 @@ impl<'t, A: Allocator, B: Allocator + Clone> Cursor<'t, A, B> {
     /// What is made anew is `alloc`'s. Where memory is refused, what is left is as before.
     pub fn pass_on(&mut self, alloc: B, at: usize) -> Result<bool, NoMemory>
         requires { at < length (offers (remaining self.old)) }
-        ensures ok { OnOk result (Alike (remaining self.new) (left (remaining self.old) at)) }
+        ensures passes { Passes self.old at result self.new }
         ensures repeats { IfOk result (λ repeats. repeats ≡ true → Repeats (remaining self.old)) }
-        ensures err { OnErr result (remaining self.new ≡ remaining self.old) }
-        ensures fits { (tree : Tree) → FitsIn self.old tree → FitsIn self.new tree }
-        ensures used { most_used (standing self.new) ≤ most_used (standing self.old) }
     {
         let in_turns = self.in_turns || chooses(&self.root);
         if in_turns && pass_turn(&mut self.root) {

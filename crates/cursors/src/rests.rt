@@ -8,11 +8,10 @@ use scenario::seeking::{count_offers, find_offer, list_offers};
 use std::alloc::Allocator;
 
 impl<'t, A: Allocator, B: Allocator + Clone> Rest for Cursor<'t, A, B> {
-    ghost use Rattle.std.specs.Prelude.{◌≡◌, ◌≤◌, IfOk, OnErr};
-    ghost use Rattle.cursors.specs.Cursors.{remaining, standing};
-    ghost use Rattle.cursors.specs.Stock.{FitsIn, most_used};
+    ghost use Rattle.std.specs.Prelude.{◌≡◌, IfOk, OnErr};
+    ghost use Rattle.cursors.specs.Calls.{StaysSmall};
+    ghost use Rattle.cursors.specs.Cursors.{remaining};
     ghost use Rattle.scenario.specs.Alike.{Takes};
-    ghost use Rattle.scenario.specs.Tree.{Tree};
 
     type Alloc = B;
 
@@ -38,8 +37,7 @@ impl<'t, A: Allocator, B: Allocator + Clone> Rest for Cursor<'t, A, B> {
     fn take(&mut self, alloc: B, at: usize) -> Result<Option<CoreAsk>, NoMemory>
         ensures ok { IfOk result (λ taken. Takes (remaining self.old) at taken (remaining self.new)) }
         ensures err { OnErr result (remaining self.new ≡ remaining self.old) }
-        ensures fits { (tree : Tree) → FitsIn self.old tree → FitsIn self.new tree }
-        ensures used { most_used (standing self.new) ≤ most_used (standing self.old) }
+        ensures small { StaysSmall self.old self.new }
     {
         let Some(ask) = self.offer_at(at) else {
             return Ok(None);

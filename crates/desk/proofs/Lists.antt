@@ -1,7 +1,7 @@
 -- A place of a list that is seen through a function.
 use Rattle.std.proofs.Common.{◌≡◌, ℕ, ◌<◌, List, ◌++◌, take, drop, slice_get, length, get_or, set, map}
 use Rattle.std.proofs.Common.{sym, ap, ◌∙◌, arith, Option, Some, None, Result, Ok, Err, false}
-use Rattle.std.specs.Prelude.{MatchOption, MatchResult, OnOk}
+use Rattle.std.specs.Prelude.{MatchOption, MatchResult}
 use Rattle.std.specs.Result.{is_err}
 use Rattle.std.proofs.lemmas.List.{get_or-map, map-set, set-get_or, length-map, drop_all, take_all, append-nil}
 use Rattle.std.proofs.lemmas.Option.{slice_get-get_or}
@@ -49,7 +49,3 @@ item_at xs ys k x e lt = ap (λ l. slice_get l k) (sym e) ∙ slice_get-get_or x
 
 pub put_back_same : {X : Type 0} (xs ys : List X) (k : ℕ) (x y : X) → xs ≡ ys → y ≡ get_or xs k x → set xs k y ≡ ys
 put_back_same xs ys k x y e same = ap (λ z. set xs k z) same ∙ (set-get_or xs k x ∙ e)
-
-pub on_ok : {A E : Type 0} (P : Type 0) (r : Result A E) → is_err r ≡ false → OnOk r P → P
-on_ok P (Ok a) e h = h
-on_ok P (Err x) e h = absurd (cc e)

@@ -3,7 +3,8 @@ use Rattle.std.proofs.Common.{◌≡◌, ◌≢◌, ◌⊎◌, inl, inr, ℕ, ze
 use Rattle.std.proofs.Common.{Bool, true, false, Option, Some, None, refl, sym, ap, ◌∙◌, subst, arith, length-append}
 use Rattle.std.proofs.lemmas.Bool.Decides.{nat_tests}
 use Rattle.std.proofs.lemmas.List.{get_or-set_same, get_or-set_other, length-set, get_or_append_left, get_or_push, set-get_or, map-set, length-replicate}
-use Rattle.std.specs.Prelude.{MatchOption}
+use Rattle.std.proofs.lemmas.List.Elements.{All-replicate}
+use Rattle.std.specs.Prelude.{All, MatchOption}
 use Rattle.std.specs.List.Sorted.{IsStrictlyIncreasing}
 use Rattle.once_cell.specs.Once.{Agrees}
 use Rattle.atomic_table.specs.Table.{Me}
@@ -13,7 +14,8 @@ use Rattle.desk.specs.declared.seats.NumberStage.{NumberStage}
 use Rattle.desk.specs.declared.seats.NumberStage.TheVariants.{Free, Claimed, Posted}
 use Rattle.atomic_table.specs.Seated.{TableId}
 use Rattle.desk.specs.Counting.{times}
-use Rattle.desk.specs.Seats.{DeskSeatView, new_seat, with_claim, with_post}
+use Rattle.desk.specs.Opening.{AreWithinLimits, OpensDesk}
+use Rattle.desk.specs.Seats.{DeskView, DeskSeatView, new_seat, numbers_of, told_no_more, with_claim, with_post}
 use Rattle.desk.specs.inner.Drawing.{fresh}
 use Rattle.desk.specs.inner.Keeping.{IsDeskSeat, IsOwn, is_claimed, is_posted}
 use Rattle.desk.proofs.Drawing.{times-append}
@@ -143,6 +145,10 @@ pub claim_seen : (table table' : TableId) (cells drawn drawn' : List ℕ) (told 
     → record { desk = record { table = table'; cells = cells }; claimed = drawn'; told = told; posted = posted'; known = known } ≡ with_claim s k
 claim_seen table table' cells drawn drawn' told posted posted' known k s e t d p = rw (t, d, p) (ap (λ v. with_claim v k) e)
 
+-- a seat that is told once more that there are no more
+pub told_again : (s : DeskSeatView) → s.told ≡ true → told_no_more s ≡ s
+told_again s e = ap (λ b. record { desk = s.desk; claimed = s.claimed; told = b; posted = s.posted; known = s.known }) (sym e)
+
 -- the seat once it has posted the result
 pub post_seen : (table : TableId) (cells cells' drawn : List ℕ) (told : Bool) (posted posted' : List Bool) (known known' : List (Option TrialResult))
     (k : ℕ) (r : TrialResult) (s : DeskSeatView)
@@ -268,3 +274,18 @@ pub looked_kept : {X : Type 0} (val : X → TrialResult) (o : Option X) (me : Me
     → IsDeskSeat me count told claims posts known'
 looked_kept val None me count told claims posts known known' k h lt f = rw f.1 h
 looked_kept val (Some x) me count told claims posts known known' k h lt f = look_kept me count told claims posts known known' k (val x) h lt f.1 f.0
+
+-- a desk that was made, once its seats are dealt
+pub opens : (n seats : ℕ) (desk : DeskView) (row : List DeskSeatView) → AreWithinLimits n seats → numbers_of desk.id ≡ n → desk.seats ≡ seats
+    → row ≡ replicate desk.seats (new_seat desk.id) → OpensDesk n seats desk row
+opens n seats desk row within numbers count dealt =
+    let dealt' = dealt ∙ ap (λ k. replicate k (new_seat desk.id)) count in
+    record {
+      within = within;
+      numbers = numbers;
+      seats_are = count;
+      row_is = dealt';
+      its =
+          subst (λ r. All (λ seat. seat.desk ≡ desk.id) r) (sym dealt')
+          (All-replicate (λ (s : DeskSeatView). s.desk ≡ desk.id) seats (new_seat desk.id) refl);
+    }

@@ -1,11 +1,12 @@
 -- What `work` has done so far.
 use Rattle.std.proofs.Common.{◌≡◌, ◌≢◌, inl, inr, ℕ, zero, suc, ◌+◌, ◌<◌, ◌≤◌, List, [], ◌∷◌, ◌++◌, length, get_or, set, true, false, Some, None}
-use Rattle.std.proofs.Common.{refl, sym, ap, ◌∙◌, subst, arith, append_assoc}
+use Rattle.std.proofs.Common.{refl, sym, ap, ◌∙◌, subst, arith, append_assoc, length-append}
 use Rattle.std.proofs.lemmas.List.{get_or-set_other}
 use Rattle.std.specs.List.Sorted.{IsStrictlyIncreasing}
 use Rattle.trials.specs.declared.verdict.TrialResult.{TrialResult}
 use Rattle.desk.specs.Counting.{times}
-use Rattle.desk.specs.Seats.{DeskSeatView, HasPosted, Knows, with_claim, with_post, told_no_more}
+use Rattle.desk.specs.Seats.{ClaimsInOrder, DeskSeatView, HasPosted, Knows, numbers_of, with_claim, with_post, told_no_more}
+use Rattle.desk.specs.Calls.{Claims}
 use Rattle.desk.specs.Working.{Works}
 use Rattle.desk.proofs.Drawing.{times-append}
 use Rattle.desk.proofs.Seating.{at_cases, times_here, times_one, times_other}
@@ -66,3 +67,10 @@ few xs n up below = by_case (length xs) refl
         let lt : m < length xs = omega (arith, e) in
         let a = at_least xs m up lt in
         let b = below (get_or xs m 0) (times_here xs m lt) in omega (arith, a, b, e)
+
+-- a seat that has claimed one number more hadn't claimed all
+pub room : (old new : DeskSeatView) (number : ℕ) → ClaimsInOrder new → Claims old number new → length old.claimed + 1 ≤ numbers_of old.desk
+room old new number order claim =
+    let desk = ap (λ s. numbers_of s.desk) claim.claims in
+    let all = few new.claimed (numbers_of new.desk) order.rises order.below in
+    let long = ap (λ s. length s.claimed) claim.claims in omega (arith, desk, all, long, length-append old.claimed (number ∷ []))

@@ -1,10 +1,13 @@
--- What is known of all seats, and what stands at the places.
-use Rattle.std.specs.Prelude.{◌≡◌, ℕ, ◌+◌, ◌≤◌, ◌||◌, List, [], ◌∷◌, length, map, slice_get, Bool, true, false, Option, Some, None}
+-- What is known of all seats, what stands at the places, and why a desk isn't closed.
+use Rattle.std.specs.Prelude.{◌≡◌, ℕ, ◌+◌, ◌<◌, ◌≤◌, ◌||◌, List, [], ◌∷◌, All, length, map, slice_get, Bool, true, false, Option, Some, None}
 use Rattle.trials.specs.declared.verdict.TrialResult.{TrialResult}
 use Rattle.trials.specs.Terms.{Plan}
+use Rattle.trials.specs.Trial.{AreResults}
+use Rattle.desk.specs.declared.faults.CloseFault.{CloseFault}
+use Rattle.desk.specs.declared.faults.CloseFault.TheVariants.{SeatMissing, NoMemory}
 use Rattle.desk.specs.Plans.{IsResultOf}
 use Rattle.desk.specs.Counting.{times, once_below}
-use Rattle.desk.specs.Seats.{DeskSeatView, HasClaimed, HasPosted, Knows}
+use Rattle.desk.specs.Seats.{DeskView, DeskSeatView, HasClaimed, HasPosted, Knows, numbers_of}
 
 -- how often a row of seats has claimed the number
 abbrev pub claims_of : ℕ → List DeskSeatView → ℕ
@@ -45,3 +48,17 @@ AreFilled places = (results : List TrialResult) × (places ≡ map (λ found. So
 -- the seat has posted all that it has claimed
 abbrev pub HasPostedAll : DeskSeatView → Type 0
 HasPostedAll seat = (number : ℕ) → HasClaimed seat number → HasPosted seat number
+
+-- a desk is closed with all its seats. Every place is filled where one of them was told that there are no more and each has posted what it
+-- claimed; and where every place is filled, the list is that of the plan's batch
+pub record Closes (plan : Plan) (desk : DeskView) (row : List DeskSeatView) (places : List (Option TrialResult)) : Type 0 where
+  pub there : desk.seats ≤ length row
+  pub claims : AreClaimed (numbers_of desk.id) row
+  pub stand : ArePlaces plan (numbers_of desk.id) row places
+  pub filled : any_told row ≡ true → All HasPostedAll row → AreFilled places
+  pub batch : (results : List TrialResult) → places ≡ map (λ found. Some found) results → AreResults plan.terms plan.tree (numbers_of desk.id) results
+
+-- why a desk isn't closed, at which so many seats are handed in
+abbrev pub IsCloseFault : DeskView → ℕ → CloseFault → Type 0
+IsCloseFault desk there SeatMissing = there < desk.seats
+IsCloseFault desk there NoMemory = desk.seats ≤ there

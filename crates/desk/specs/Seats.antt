@@ -1,5 +1,6 @@
--- What a contract sees of a desk and of a seat, and what the calls do to a seat.
+-- What a contract sees of a desk and of a seat, and a seat once something was done at it.
 use Rattle.std.specs.Prelude.{◌≡◌, ℕ, ◌<◌, List, [], ◌∷◌, ◌++◌, length, replicate, slice_index_or, slice_set, Bool, true, false, Option, Some, None}
+use Rattle.std.specs.List.Sorted.{IsStrictlyIncreasing}
 use Rattle.atomic_table.specs.Seated.{TableId}
 use Rattle.trials.specs.declared.verdict.TrialResult.{TrialResult}
 use Rattle.desk.specs.Counting.{times}
@@ -39,6 +40,12 @@ HasPosted seat number = slice_index_or seat.posted number false ≡ true
 -- trial's result lies in it, and not of which number
 abbrev pub Knows : DeskSeatView → ℕ → TrialResult → Type 0
 Knows seat number result = (slice_index_or seat.known number None ≡ Some result) × (result.number ≡ number)
+
+-- what holds of each seat, whatever was called: its claims rise and are numbers of its desk, and it has posted nothing else
+pub record ClaimsInOrder (seat : DeskSeatView) : Type 0 where
+  pub rises : IsStrictlyIncreasing seat.claimed
+  pub below : (number : ℕ) → HasClaimed seat number → number < numbers_of seat.desk
+  pub own : (number : ℕ) → HasPosted seat number → HasClaimed seat number
 
 -- a seat that has done nothing
 abbrev pub new_seat : DeskId → DeskSeatView

@@ -1,11 +1,11 @@
 //! The end of a desk.
 
-ghost use Rattle.std.specs.Prelude.{◌≡◌, ◌<◌, ◌≤◌, ◌+◌, [], ℕ, length, map, replicate, slice_index_or, All, None, Some, OnOk, IfOk};
+ghost use Rattle.std.specs.Prelude.{◌≡◌, ◌<◌, ◌≤◌, [], ℕ, length, map, replicate, slice_index_or, All, None, Some};
 ghost use Rattle.once_cell.specs.Once.{cell_name};
 ghost use Rattle.trials.specs.declared.verdict.TrialResult.{TrialResult};
 ghost use Rattle.desk.specs.Plans.{IsResultOf};
 ghost use Rattle.desk.specs.Seats.{HasPosted, Knows, numbers_of};
-ghost use Rattle.desk.specs.Closing.{AreClaimed, IsPlace};
+ghost use Rattle.desk.specs.Closing.{AreClaimed, Closes};
 ghost use Rattle.desk.specs.inner.Keeping.{Collects};
 
 use crate::cells::{Cell, peek_at};
@@ -17,11 +17,8 @@ use crate::word::{Token, Word, count_all, merge_token};
 use trials::TrialResult;
 
 impl<'j, D: Planned> Desk<'j, D> {
-    ghost use Rattle.std.specs.Prelude.{◌≡◌, ◌<◌, ◌≤◌, ◌↔◌, List, All, length, map, true, Some, IfOk, OnOk, IfErr, IsErrAnd};
-    ghost use Rattle.trials.specs.Trial.{AreResults};
-    ghost use Rattle.trials.specs.declared.verdict.TrialResult.{TrialResult};
-    ghost use Rattle.desk.specs.Seats.{numbers_of};
-    ghost use Rattle.desk.specs.Closing.{AreClaimed, AreFilled, ArePlaces, HasPostedAll, any_told};
+    ghost use Rattle.std.specs.Prelude.{◌≡◌, All, length, IfOk, IfErr};
+    ghost use Rattle.desk.specs.Closing.{Closes, IsCloseFault};
 
     /// Ends the desk, where all its seats are handed in: each posted result at the place of its number, and `None` at
     /// that of a number that no seat has posted. It waits for nobody.
@@ -36,14 +33,9 @@ impl<'j, D: Planned> Desk<'j, D> {
         seats: Vec<DeskSeat<D>>,
     ) -> Result<Vec<Option<TrialResult>>, (CloseFault, Desk<'j, D>, Vec<DeskSeat<D>>)>
         requires { All (λ seat. seat.desk ≡ self.id) seats.items }
-        ensures missing { length seats.items < self.entry.seats → IsErrAnd result (λ refused. refused.0 ≡ CloseFault.SeatMissing) }
-        ensures else_memory { self.entry.seats ≤ length seats.items → IfErr result (λ refused. refused.0 ≡ CloseFault.NoMemory) }
-        ensures back { IfErr result (λ refused. (refused.1 ≡ self.entry) × (refused.2.items ≡ seats.items)) }
-        ensures claims { OnOk result (AreClaimed (numbers_of self.entry.id) seats.items) }
-        ensures places { IfOk result (λ places. ArePlaces D.plan (numbers_of self.entry.id) seats.items places.items) }
-        ensures filled { any_told seats.items ≡ true → All HasPostedAll seats.items → IfOk result (λ places. AreFilled places.items) }
-        ensures batch { IfOk result (λ places. (results : List TrialResult) → places.items ≡ map (λ found. Some found) results →
-            AreResults D.plan.terms D.plan.tree (numbers_of self.entry.id) results) }
+        ensures closed { IfOk result (λ places. Closes D.plan self.entry seats.items places.items) }
+        ensures refused { IfErr result (λ refused. IsCloseFault self.entry (length seats.items) refused.0
+            × (refused.1 ≡ self.entry) × (refused.2.items ≡ seats.items)) }
     {
         if seats.len() < self.seats as usize {
             return Err((CloseFault::SeatMissing, self, seats));
@@ -64,9 +56,7 @@ fn end<'j, D: Planned>(
     requires seats { All (λ s. s.desk ≡ desk.id) seats.items }
     requires enough { desk.seats ≤ length seats.items }
     requires empty { places.items ≡ replicate (numbers_of desk.id) None }
-    ensures claims { AreClaimed (numbers_of desk.entry.id) seats.items }
-    ensures length { length result.items ≡ numbers_of desk.entry.id }
-    ensures places { (k : ℕ) → k < numbers_of desk.entry.id → IsPlace D.plan seats.items k (slice_index_or result.items k None) }
+    ensures { Closes D.plan desk.entry seats.items result.items }
 {
     for seat in seats.iter_mut() {
         collect(&desk.cells, seat, &mut places);

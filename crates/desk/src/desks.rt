@@ -1,10 +1,11 @@
 //! Desks, where numbers are claimed and results are posted.
 
-ghost use Rattle.std.specs.Prelude.{◌≡◌, ◌<◌, ◌≤◌, [], length, map, replicate, IfOk};
+ghost use Rattle.std.specs.Prelude.{◌≡◌, [], length, map, replicate, IfOk};
 ghost use Rattle.once_cell.specs.Once.{cell_name};
 ghost use Rattle.desk.specs.inner.Drawing.{fresh};
 ghost use Rattle.desk.specs.Plans.{plan_of};
 ghost use Rattle.desk.specs.Seats.{new_seat, numbers_of};
+ghost use Rattle.desk.specs.Opening.{AreWithinLimits, OpensDesk};
 
 use crate::cells::{Cell, Posted, get_at, make_cells, make_notes, set_at};
 use crate::faults::{DeskFault, PostFault};
@@ -45,12 +46,11 @@ impl<'j, D: Planned> Model for Desk<'j, D> {
 }
 
 impl<'j, D: Planned> Desk<'j, D> {
-    ghost use Rattle.std.specs.Prelude.{◌≡◌, ◌<◌, ◌≤◌, ◌↔◌, ℕ, replicate, All, slice_index_or, Some, None, true, false};
-    ghost use Rattle.std.specs.Prelude.{IfOk, OnOk, IfErr, IfSome, IfNone, IsErrOf, IsErrAnd, IsSome};
-    ghost use Rattle.std.specs.List.Sorted.{IsStrictlyIncreasing};
-    ghost use Rattle.trials.specs.declared.verdict.TrialResult.{TrialResult};
+    ghost use Rattle.std.specs.Prelude.{◌≡◌, IfOk, IfErr, MatchBool, MatchOption, MatchResult};
     ghost use Rattle.desk.specs.Plans.{IsResultOf, plan_of};
-    ghost use Rattle.desk.specs.Seats.{HasClaimed, HasPosted, Knows, new_seat, numbers_of, told_no_more, with_claim, with_known, with_post};
+    ghost use Rattle.desk.specs.Seats.{told_no_more};
+    ghost use Rattle.desk.specs.Opening.{IsDeskFault, OpensDesk};
+    ghost use Rattle.desk.specs.Calls.{CanPost, Claims, FindsResult, FindsNoResult, IsPostFault, Posts};
 
     /// Makes a desk for the trials of numbers 0 to `n` - 1 of a job, and so many seats, which have claimed nothing.
     /// Room for what a seat claims, posts and finds is made here.
@@ -64,12 +64,8 @@ impl<'j, D: Planned> Desk<'j, D> {
         seats: u32,
     ) -> Result<(Desk<'j, D>, Vec<DeskSeat<D>>), DeskFault>
         requires { D.plan ≡ plan_of job.now }
-        ensures too_many { IsErrOf result DeskFault.TooMany ↔ (1000000 < n) }
-        ensures no_seats { IsErrOf result DeskFault.NoSeats ↔ ((n ≤ 1000000) × (seats ≡ 0)) }
-        ensures too_many_seats { IsErrOf result DeskFault.TooManySeats ↔ ((n ≤ 1000000) × (64 < seats)) }
-        ensures desk { IfOk result (λ made. (numbers_of made.0.id ≡ n) × (made.0.seats ≡ seats)) }
-        ensures seats { IfOk result (λ made. made.1.items ≡ replicate seats (new_seat made.0.id)) }
-        ensures its { IfOk result (λ made. All (λ seat. seat.desk ≡ made.0.id) made.1.items) }
+        ensures made { IfOk result (λ made. OpensDesk n seats made.0 made.1.items) }
+        ensures refused { IfErr result (IsDeskFault n seats) }
     {
         if n > MOST_TRIALS {
             return Err(DeskFault::TooMany);
@@ -90,16 +86,7 @@ impl<'j, D: Planned> Desk<'j, D> {
     /// `None` where there are no more; a seat that was told so touches the word no more.
     pub fn claim(&self, seat: &mut DeskSeat<D>) -> Option<u32>
         requires { seat.old.desk ≡ self.now.id }
-        ensures some { IfSome result (λ number. seat.new ≡ with_claim seat.old number) }
-        ensures within { IfSome result (λ number. number < numbers_of self.now.id) }
-        ensures next { IfSome result (λ number. (claimed : ℕ) → HasClaimed seat.old claimed → claimed < number) }
-        ensures unposted { IfSome result (λ number. ¬ HasPosted seat.new number) }
-        ensures none { IfNone result (seat.new ≡ told_no_more seat.old) }
-        ensures told { seat.old.told ≡ true → (result ≡ None) × (seat.new ≡ seat.old) }
-        ensures rises { IsStrictlyIncreasing seat.new.claimed }
-        ensures below { (number : ℕ) → HasClaimed seat.new number → number < numbers_of self.now.id }
-        ensures own { (number : ℕ) → HasPosted seat.new number → HasClaimed seat.new number }
-        ensures same { seat.new.desk ≡ seat.old.desk }
+        ensures { MatchOption result (seat.new ≡ told_no_more seat.old) (λ number. Claims seat.old number seat.new) }
     {
         if seat.told {
             return None;
@@ -129,15 +116,8 @@ impl<'j, D: Planned> Desk<'j, D> {
     ) -> Result<(), (PostFault, TrialResult)>
         requires seat { seat.old.desk ≡ self.now.id }
         requires made { IsResultOf D.plan number made }
-        ensures not_yours { ¬ HasClaimed seat.old number → IsErrAnd result (λ refused. refused.0 ≡ PostFault.NotYours) }
-        ensures already { HasClaimed seat.old number → HasPosted seat.old number → IsErrAnd result (λ refused. refused.0 ≡ PostFault.Already) }
-        ensures else_memory { HasClaimed seat.old number → ¬ HasPosted seat.old number → IfErr result (λ refused. refused.0 ≡ PostFault.NoMemory) }
-        ensures ok { OnOk result (seat.new ≡ with_post seat.old number made) }
-        ensures posted { OnOk result (HasPosted seat.new number) }
-        ensures known { OnOk result (Knows seat.new number made) }
-        ensures first { OnOk result ((found : TrialResult) → ¬ Knows seat.old number found) }
-        ensures err { IfErr result (λ refused. (refused.1 ≡ made) × (seat.new ≡ seat.old)) }
-        ensures same { seat.new.desk ≡ seat.old.desk }
+        ensures { MatchResult result (λ _. Posts seat.old number made seat.new)
+            (λ refused. IsPostFault seat.old number refused.0 × (refused.1 ≡ made) × (seat.new ≡ seat.old)) }
     {
         if let Some(fault) = seat.refusal(number) {
             return Err((fault, made));
@@ -151,14 +131,9 @@ impl<'j, D: Planned> Desk<'j, D> {
     /// Sets the cell of a number that the seat has claimed, and answers whether that was done. Else nothing has
     /// changed.
     fn put(&self, seat: &mut DeskSeat<D>, number: u32, made: TrialResult) -> bool
-        requires seat { seat.old.desk ≡ self.now.id }
-        requires made { IsResultOf D.plan number made }
-        requires claimed { HasClaimed seat.old number }
-        ensures put { result ≡ true → seat.new ≡ with_post seat.old number made }
-        ensures posted { result ≡ true → HasPosted seat.new number }
-        ensures known { result ≡ true → Knows seat.new number made }
-        ensures first { result ≡ true → (found : TrialResult) → ¬ Knows seat.old number found }
-        ensures not_put { result ≡ false → seat.new ≡ seat.old }
+        requires made { (seat.old.desk ≡ self.now.id) × IsResultOf D.plan number made }
+        requires can { CanPost seat.old number }
+        ensures { MatchBool result (Posts seat.old number made seat.new) (seat.new ≡ seat.old) }
     {
         let place = number as usize;
         let posted = Posted {
@@ -178,12 +153,8 @@ impl<'j, D: Planned> Desk<'j, D> {
     /// The result of the number's trial, where the seat has posted it, has found it before, or finds it now.
     pub fn look(&self, seat: &mut DeskSeat<D>, number: u32) -> Option<TrialResult>
         requires { seat.old.desk ≡ self.now.id }
-        ensures some { IfSome result (λ found. IsResultOf D.plan number found × Knows seat.new number found) }
-        ensures own { HasPosted seat.old number → IsSome result }
-        ensures again { (found : TrialResult) → Knows seat.old number found → result ≡ Some found }
-        ensures none { IfNone result ((found : TrialResult) → ¬ Knows seat.new number found) }
-        ensures others { seat.new ≡ with_known seat.old number (slice_index_or seat.new.known number None) }
-        ensures same { seat.new.desk ≡ seat.old.desk }
+        ensures { MatchOption result (FindsNoResult seat.old number seat.new)
+            (λ found. FindsResult D.plan seat.old number found seat.new) }
     {
         let place = number as usize;
         if place >= seat.notes.len() {
@@ -205,10 +176,8 @@ fn open_all<'j, D: Planned>(
     seats: u32,
 ) -> Result<(Desk<'j, D>, Vec<DeskSeat<D>>), NoMemory>
     requires plan { D.plan ≡ plan_of job.now }
-    requires few { n ≤ 1000000 }
-    requires some { (0 < seats) × (seats ≤ 64) }
-    ensures desk { IfOk result (λ made. (numbers_of made.0.id ≡ n) × (made.0.seats ≡ seats)) }
-    ensures seats { IfOk result (λ made. made.1.items ≡ replicate seats (new_seat made.0.id)) }
+    requires within { AreWithinLimits n seats }
+    ensures { IfOk result (λ made. OpensDesk n seats made.0 made.1.items) }
 {
     let (desk, token) = make_desk(alloc, job, n, seats)?;
     let row = deal_seats(&desk, token)?;
@@ -223,8 +192,7 @@ fn make_desk<'j, D: Planned>(
     seats: u32,
 ) -> Result<(Desk<'j, D>, Token), NoMemory>
     requires plan { D.plan ≡ plan_of job.now }
-    requires few { n ≤ 1000000 }
-    requires some { (0 < seats) × (seats ≤ 64) }
+    requires within { AreWithinLimits n seats }
     ensures desk { IfOk result (λ made. (numbers_of made.0.id ≡ n) × (made.0.seats ≡ seats)) }
     ensures token { IfOk result (λ made. (made.1.table_id ≡ made.0.id.table) × (made.1.me ≡ (fresh seats n, []))) }
 {

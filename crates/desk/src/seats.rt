@@ -58,16 +58,12 @@ impl<D: Planned> Model for DeskSeat<D> {
 }
 
 impl<D: Planned> DeskSeat<D> {
-    ghost use Rattle.std.specs.Prelude.{◌≡◌, slice_index_or, Some, None, IfNone, false};
-    ghost use Rattle.desk.specs.Seats.{HasClaimed, HasPosted};
+    ghost use Rattle.std.specs.Prelude.{◌≡◌, slice_index_or, MatchOption, false};
+    ghost use Rattle.desk.specs.Calls.{CanPost, IsPostFault};
 
     /// Why a result of this number isn't taken.
     pub(crate) fn refusal(&self, number: u32) -> Option<PostFault>
-        ensures not_yours { ¬ HasClaimed self.now number → result ≡ Some PostFault.NotYours }
-        ensures already { HasClaimed self.now number → HasPosted self.now number → result ≡ Some PostFault.Already }
-        ensures none { HasClaimed self.now number → ¬ HasPosted self.now number → result ≡ None }
-        ensures claimed { IfNone result (HasClaimed self.now number) }
-        ensures unposted { IfNone result (¬ HasPosted self.now number) }
+        ensures { MatchOption result (CanPost self.now number) (IsPostFault self.now number) }
     {
         match self.stages.get(number as usize) {
             Some(NumberStage::Claimed) => None,

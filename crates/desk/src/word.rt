@@ -1,9 +1,9 @@
 //! The word that numbers are claimed by. Each step on it gives one number, and what a seat drew is known to its token
 //! alone, which is there for the proofs and takes no bytes.
 
-ghost use Rattle.std.specs.Prelude.{◌≡◌, ℕ, ◌+◌, ◌-◌, ◌<◌, ◌≤◌, ◌^◌, [], ◌++◌, ◌∷◌, true, false, IfSome, IfNone, IfOk};
-ghost use Rattle.desk.specs.Counting.{times, once_below};
-ghost use Rattle.desk.specs.inner.Drawing.{fresh, merged};
+ghost use Rattle.std.specs.Prelude.{◌≡◌, ◌-◌, [], IfOk, MatchOption};
+ghost use Rattle.desk.specs.inner.Drawing.{CanBeDealt, CanDraw, DrawsNumber, HasDrawnAllBelow};
+ghost use Rattle.desk.specs.inner.Drawing.{HasEveryPart, IsToldOver, IsTokenOf, fresh, merged};
 
 use atomic_table::{Join, Play, Seat as TableSeat, Split, Table, TableRule};
 use std::alloc::{AllocError, Global};
@@ -76,7 +76,7 @@ pub type Word = Table<(), WordTokenView, Size, Numbers, Global>;
 pub type Token = TableSeat<(), WordTokenView>;
 
 /// The word, and a token with every part.
-pub fn new_word(alloc: Global, size: Size) -> Result<(Word, Token), AllocError>
+pub(crate) fn new_word(alloc: Global, size: Size) -> Result<(Word, Token), AllocError>
     ensures word { IfOk result (λ made. (made.0.shared.table_id.words ≡ 1) × (made.0.shared.key ≡ size)) }
     ensures token { IfOk result (λ made. (made.1.table_id ≡ made.0.shared.table_id) × (made.1.me ≡ (fresh size.parts size.count, []))) }
 {
@@ -84,11 +84,8 @@ pub fn new_word(alloc: Global, size: Size) -> Result<(Word, Token), AllocError>
 }
 
 /// Splits one part off a token that nothing was drawn with.
-pub fn deal_part(word: &Word, token: &mut Token) -> Token
-    requires table { token.old.table_id ≡ word.now.shared.table_id }
-    requires words { word.now.shared.table_id.words ≡ 1 }
-    requires fresh { token.old.me ≡ (fresh token.old.me.0.parts token.old.me.0.count, []) }
-    requires some { 0 < token.old.me.0.parts }
+pub(crate) fn deal_part(word: &Word, token: &mut Token) -> Token
+    requires { CanBeDealt word.now.shared.table_id token.old.table_id token.old.me }
     ensures left { (token.new.me ≡ (fresh (token.old.me.0.parts - 1) token.old.me.0.count, [])) × (token.new.table_id ≡ token.old.table_id) }
     ensures part { (result.me ≡ (fresh 1 token.old.me.0.count, [])) × (result.table_id ≡ token.old.table_id) }
 {
@@ -96,21 +93,10 @@ pub fn deal_part(word: &Word, token: &mut Token) -> Token
 }
 
 /// Draws a number by one step, and waits for nobody.
-pub fn draw_number(word: &Word, token: &mut Token, count: u64) -> Option<u64>
-    requires table { token.old.table_id ≡ word.now.shared.table_id }
-    requires words { word.now.shared.table_id.words ≡ 1 }
-    requires count { token.old.me.0.count ≡ word.now.shared.key.count }
-    requires given { count ≡ token.old.me.0.count }
-    requires part { 0 < token.old.me.0.parts }
-    requires small { word.now.shared.key.count + word.now.shared.key.parts < 2 ^ 64 }
-    requires on { token.old.me.0.over ≡ false }
-    requires free { token.old.me.1 ≡ [] }
-    ensures some { IfSome result (λ number. token.new.me ≡
-        (record { parts = token.old.me.0.parts; count = token.old.me.0.count; drawn = token.old.me.0.drawn ++ number ∷ []; over = false }, [])) }
-    ensures within { IfSome result (λ number. number < count) }
-    ensures rises { IfSome result (λ number. (x : ℕ) → 0 < times x token.old.me.0.drawn → x < number) }
-    ensures none { IfNone result (token.new.me ≡
-        (record { parts = token.old.me.0.parts; count = token.old.me.0.count; drawn = token.old.me.0.drawn; over = true }, [])) }
+pub(crate) fn draw_number(word: &Word, token: &mut Token, count: u64) -> Option<u64>
+    requires { CanDraw word.now.shared.table_id token.old.table_id word.now.shared.key token.old.me count }
+    ensures draw { MatchOption result (IsToldOver token.old.me token.new.me)
+        (λ number. DrawsNumber token.old.me number count token.new.me) }
     ensures table { token.new.table_id ≡ token.old.table_id }
 {
     let number = word.shared.fetch_add::<Draw>(token, 0, 1);
@@ -118,24 +104,18 @@ pub fn draw_number(word: &Word, token: &mut Token, count: u64) -> Option<u64>
 }
 
 /// Puts two tokens together.
-pub fn merge_token(word: &Word, token: &mut Token, other: Token)
-    requires table { token.old.table_id ≡ word.now.shared.table_id }
-    requires words { word.now.shared.table_id.words ≡ 1 }
-    requires other { (other.table_id ≡ word.now.shared.table_id) × (other.me.1 ≡ []) }
-    requires free { token.old.me.1 ≡ [] }
+pub(crate) fn merge_token(word: &Word, token: &mut Token, other: Token)
+    requires token { IsTokenOf word.now.shared.table_id token.old.table_id token.old.me }
+    requires other { IsTokenOf word.now.shared.table_id other.table_id other.me }
     ensures { (token.new.me ≡ (merged token.old.me.0 other.me.0, [])) × (token.new.table_id ≡ token.old.table_id) }
 {
     word.shared.join_seat::<Merge>(token, other);
 }
 
 /// Who has every part knows which numbers were drawn: those below some number, each once.
-pub fn count_all(word: &Word, token: &mut Token)
-    requires table { token.old.table_id ≡ word.now.shared.table_id }
-    requires words { word.now.shared.table_id.words ≡ 1 }
-    requires count { token.old.me.0.count ≡ word.now.shared.key.count }
-    requires all { word.now.shared.key.parts ≤ token.old.me.0.parts }
-    ensures { (c : ℕ) × (c ≤ token.old.me.0.count) × ((x : ℕ) → times x token.old.me.0.drawn ≡ once_below x c)
-        × (token.old.me.0.over ≡ true → c ≡ token.old.me.0.count) }
+pub(crate) fn count_all(word: &Word, token: &mut Token)
+    requires { HasEveryPart word.now.shared.table_id token.old.table_id word.now.shared.key token.old.me }
+    ensures { HasDrawnAllBelow token.old.me.0 }
 {
     word.shared.load::<Total>(token, 0);
 }

@@ -1,11 +1,12 @@
 //! Working off the trials of a desk.
 
-ghost use Rattle.std.specs.Prelude.{◌≡◌, ℕ, List, length, true, IfOk, OnOk, OnErr};
-ghost use Rattle.desk.specs.Working.{Stops, Works};
+ghost use Rattle.std.specs.Prelude.{◌≡◌, MatchResult};
+ghost use Rattle.desk.specs.Working.{Stops, WorksOff};
 ghost use Rattle.trials.specs.Series.{planned};
 
 use crate::desks::Desk;
 use crate::jobs::Planned;
+use crate::laws::{desks_are_within_limits, seats_claim_in_order};
 use crate::seats::DeskSeat;
 use base::NoMemory;
 use bumpalo::Bump;
@@ -18,10 +19,7 @@ use trials::Series;
 /// Where it is refused, what was posted stands, and the one number that it was at is claimed and not posted.
 pub fn work<D: Planned>(desk: &Desk<'_, D>, seat: &mut DeskSeat<D>) -> Result<u32, NoMemory>
     requires { seat.old.desk ≡ desk.now.id }
-    ensures ok { IfOk result (λ count. (numbers : List ℕ) × (length numbers ≡ count) × Works seat.old seat.new numbers) }
-    ensures told { OnOk result (seat.new.told ≡ true) }
-    ensures err { OnErr result (Stops seat.old seat.new) }
-    ensures same { seat.new.desk ≡ seat.old.desk }
+    ensures { MatchResult result (WorksOff seat.old seat.new) (λ _. Stops seat.old seat.new) }
 {
     let arena = Bump::new(desk.alloc);
     let mut series = Series::new(desk.alloc, &arena, &desk.job.scenario, &desk.job.setup);
@@ -36,15 +34,12 @@ fn work_off<D: Planned>(
 ) -> Result<u32, NoMemory>
     requires seat { seat.old.desk ≡ desk.now.id }
     requires plan { planned series.old ≡ D.plan }
-    ensures ok { IfOk result (λ count. (numbers : List ℕ) × (length numbers ≡ count) × Works seat.old seat.new numbers) }
-    ensures told { OnOk result (seat.new.told ≡ true) }
-    ensures err { OnErr result (Stops seat.old seat.new) }
-    ensures same { seat.new.desk ≡ seat.old.desk }
+    ensures { MatchResult result (WorksOff seat.old seat.new) (λ _. Stops seat.old seat.new) }
 {
-    // A look at a field brings in what holds of every desk.
-    let _ = &desk.cells;
+    desks_are_within_limits(desk);
     let mut count = 0u32;
     while let Some(number) = desk.claim(seat) {
+        seats_claim_in_order(seat);
         let Ok(made) = series.result(number) else {
             return Err(NoMemory);
         };

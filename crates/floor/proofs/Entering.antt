@@ -16,12 +16,12 @@ use Rattle.monitor.specs.Violations.{AnswersFirst}
 use Rattle.monitor.specs.Watching.{HasSeen, LeadTo, AnswersHistory, SeesNext, AreDue, made_after, scene_after}
 use Rattle.monitor.proofs.FirstViolations.{first_seen, first-push}
 use Rattle.record_lines.specs.declared.entry.Entry.{Entry}
-use Rattle.record.specs.View.{RecordingView, opened_of, steps_of, with_owned}
+use Rattle.record.specs.View.{RecordingView, steps_of, with_owned}
 use Rattle.trials.specs.Terms.{Terms}
 use Rattle.floor.specs.FloorId.{FloorId}
 use Rattle.floor.specs.Turning.{recorded, recorded_at, is_its}
 use Rattle.floor.specs.Closing.{HaveOwners}
-use Rattle.floor.specs.inner.Keeping.{IsKeptUp, IsStart, Advances}
+use Rattle.floor.specs.inner.Keeping.{AreParts, IsKeptUp, Advances}
 use Rattle.floor.proofs.Lists.{get_push, take_whole}
 
 state_push : (tables : Tables) (s : State) (xs : List Step) (step : Step) →
@@ -129,16 +129,15 @@ fits_more recording recording' es e o capacity same is room =
     omega (arith, count, low)
 
 -- a world, a watch and a recording that are opened under the floor's setup are kept up
-pub kept_first : (f : FloorId) (world : View) (watch : List ℕ) (recording : RecordingView) → IsStart f.setup world →
-    ((w : View) → HasSeen w f.setup.opening [] watch) → recording ≡ opened_of f.seats f.setup.shape f.setup.tables f.setup.opening →
+pub kept_first : (f : FloorId) (world : View) (watch : List ℕ) (recording : RecordingView) → AreParts f.seats f.setup world watch recording →
     IsKeptUp f world watch recording [] None
-kept_first f world watch recording starts seen opens = subst (λ (r : RecordingView). IsKeptUp f world watch r [] None) (sym opens) (record {
+kept_first f world watch recording parts = subst (λ (r : RecordingView). IsKeptUp f world watch r [] None) (sym parts.opens) (record {
   recorded_is = refl;
   legal = refl;
-  shape = starts.shape;
-  tables = starts.tables;
-  state = starts.state;
-  seen = seen world;
+  shape = parts.starts.shape;
+  tables = parts.starts.tables;
+  state = parts.starts.state;
+  seen = parts.seen world;
   first = λ number step at. absurd (cc at);
   owned = record { each = refl; belonged = λ number entry owner at by. absurd (cc at) };
 })

@@ -20,10 +20,10 @@ use Rattle.world.specs.declared.counts.DeliveryKind.{DeliveryKind}
 use Rattle.world.specs.declared.counts.DeliveryKind.TheVariants as kind
 use Rattle.world.specs.Enabled.{enabled_at_block, heads_from, kind_enabled, kind_found}
 use Rattle.world.specs.View.{View}
-use Rattle.world.specs.inner.Counts.{Rows, row_of_kind}
+use Rattle.world.specs.inner.Counts.{Rows, row_of_kind, none_counted}
 use Rattle.floor.specs.Belonging.{belongs}
 use Rattle.floor.specs.inner.Keeping.{Advances, IsStart}
-use Rattle.floor.specs.inner.Sharing.{AreCountedFor, AreRecounted, AreShared, belongs_in, lengths_from, no_rows, ready_at, recounted, share}
+use Rattle.floor.specs.inner.Sharing.{AreCountedFor, AreRecounted, AreShared, belongs_in, lengths_from, ready_at, recounted, share}
 use Rattle.machine.specs.declared.made.Made.{Made}
 use Rattle.record.specs.View.{RecordingView}
 use Rattle.trials.specs.Terms.{Terms}
@@ -213,7 +213,7 @@ lengths-opened seats caches tables seat k i (v ∷ values) =
 
 -- before the first step nothing is ready for anybody
 pub shared_first : (seats : ℕ) (setup : Terms) (world : View) (shares : List Rows) → IsStart setup world →
-    length shares ≡ seats → All (λ rows. rows ≡ no_rows (length setup.opening)) shares → AreShared seats world shares
+    length shares ≡ seats → All (λ rows. rows ≡ none_counted (length setup.opening)) shares → AreShared seats world shares
 shared_first seats setup world shares starts count none = record {
   count = count;
   each = λ seat rows at k. row k rows (none-at shares seat rows none at) ∙ zeros k seat;
@@ -222,12 +222,12 @@ shared_first seats setup world shares starts count none = record {
     blocks : ℕ
     blocks = length setup.opening
 
-    none-at : (xs : List Rows) (n : ℕ) (x : Rows) → All (λ rows. rows ≡ no_rows blocks) xs → slice_get xs n ≡ Some x → x ≡ no_rows blocks
+    none-at : (xs : List Rows) (n : ℕ) (x : Rows) → All (λ rows. rows ≡ none_counted blocks) xs → slice_get xs n ≡ Some x → x ≡ none_counted blocks
     none-at xs n x h at =
-        subst (λ (r : Rows). r ≡ no_rows blocks) (get_or_from_slice_get xs n x x at)
-        (All-get_or (λ rows. rows ≡ no_rows blocks) xs n x (get-below xs n x at) h)
+        subst (λ (r : Rows). r ≡ none_counted blocks) (get_or_from_slice_get xs n x x at)
+        (All-get_or (λ rows. rows ≡ none_counted blocks) xs n x (get-below xs n x at) h)
 
-    row : (k : DeliveryKind) (rows : Rows) → rows ≡ no_rows blocks → row_of_kind rows k ≡ replicate blocks 0
+    row : (k : DeliveryKind) (rows : Rows) → rows ≡ none_counted blocks → row_of_kind rows k ≡ replicate blocks 0
     row kind.Request rows e = ap (λ (r : Rows). r.requests) e
     row kind.Head rows e = ap (λ (r : Rows). r.heads) e
     row kind.Response rows e = ap (λ (r : Rows). r.responses) e

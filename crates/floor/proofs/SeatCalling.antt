@@ -1,5 +1,6 @@
 -- What a call finds at a hall is a moment at its floor.
-use Rattle.std.proofs.Common.{◌≡◌, ◌≤◌, ℕ, List, [], Option, length, subst}
+use Rattle.std.proofs.Common.{◌≡◌, ◌≤◌, ◌∙◌, ℕ, List, [], Option, length, ap, refl, subst, sym}
+use Rattle.atomic_table.specs.Seated.{TableId}
 use Rattle.atomic_table.specs.Table.{Me}
 use Rattle.monitor.specs.declared.violation.Violation.{Violation}
 use Rattle.record_lines.specs.declared.entry.Entry.{Entry}
@@ -11,7 +12,19 @@ use Rattle.floor.specs.Turning.{HallView, SeatView}
 use Rattle.floor.specs.Histories.{history}
 use Rattle.floor.specs.SeatCalling.{IsMoment}
 use Rattle.floor.specs.inner.Keeping.{IsKeptUp}
-use Rattle.floor.specs.inner.Tokens.{keeper, sitting}
+use Rattle.floor.specs.inner.Tokens.{AreTied, Token, keeper, sitting}
+
+-- the tokens of a hall and of a seat of one floor are tied
+pub are_tied : (f : FloorId) (table_id : TableId) (hall seat : Token) (es : List Entry) (os : List ℕ) (number : ℕ) (made : List (ℕ × Entry)) →
+    table_id ≡ f.ground → f.ground.words ≡ 1 → hall.table_id ≡ f.ground → hall.me ≡ (keeper es os f.seats, []) →
+    seat.table_id ≡ f.ground → seat.me ≡ (sitting number made, []) → AreTied table_id hall seat
+are_tied f table_id hall seat es os number made table one hall_is keeps seat_is sits = record {
+  table = hall_is ∙ sym table;
+  one = ap (λ (t : TableId). t.words) table ∙ one;
+  keeps = subst (λ (m : Me Entry TokenView). m ≡ (keeper m.0.entries m.0.owners m.0.next, [])) (sym keeps) refl;
+  same = seat_is ∙ sym table;
+  sits = subst (λ (m : Me Entry TokenView). m ≡ (sitting m.0.number m.0.made, [])) (sym sits) refl;
+}
 
 -- what two tokens tell is so of a hall and a seat that have them
 pub told : (hall seat : Me Entry TokenView) (es : List Entry) (os : List ℕ) (seats number : ℕ) (made : List (ℕ × Entry)) →

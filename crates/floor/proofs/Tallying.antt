@@ -100,17 +100,6 @@ pub record IsCountedAgain (seats : ℕ) (world : View) (block : BlockId) (old no
   pub done : (j : ℕ) (rows : Rows) → j < seat → slice_get old j ≡ Some rows → slice_get now j ≡ Some (recounted seats world j block rows)
   pub rest : (j : ℕ) → seat ≤ j → slice_get now j ≡ slice_get old j
 
--- rows are what each of them is
-pub same_rows : (r : Rows) (a b c : List ℕ) → r.requests ≡ a → r.heads ≡ b → r.responses ≡ c →
-    r ≡ record { requests = a; heads = b; responses = c }
-same_rows r a b c first second third =
-    ap (λ (x : List ℕ). the-rows x r.heads r.responses) first
-    ∙ ap (λ (x : List ℕ). the-rows a x r.responses) second
-    ∙ ap (λ (x : List ℕ). the-rows a b x) third
-  where
-    the-rows : List ℕ → List ℕ → List ℕ → Rows
-    the-rows x y z = record { requests = x; heads = y; responses = z }
-
 -- what is at a place of a list that is so long is something
 pub get_some : (steps : List Step) (n k : ℕ) (o : Option Step) → n ≡ k → k < length steps → o ≡ slice_get steps n → IfSome o (λ x. slice_get steps k ≡ Some x)
 get_some steps n k None e lt is = tt

@@ -3,6 +3,9 @@ pub mod inner
 pub mod Belonging
 pub mod Histories
 pub mod FloorId
+pub mod Opening
 pub mod Turning
 pub mod Closing
+pub mod Accounts
 pub mod SeatCalling
+pub mod HallCalling

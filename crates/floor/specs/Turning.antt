@@ -1,4 +1,4 @@
--- What a hall and a seat are to a contract, and what a turn does to both.
+-- What a hall and a seat are to a contract, and what is so behind some entries.
 use Rattle.std.specs.Prelude.{◌≡◌, ◌%◌, ℕ, List, [], ◌∷◌, ◌++◌, Option, Some, Bool, length, slice_get}
 use Rattle.base.specs.declared.step.Step.{Step}
 use Rattle.machine.specs.Machine.{State, next, opened, state_after}
@@ -69,12 +69,3 @@ Draws floor entries seat word step = slice_get (its_ready floor entries seat) (w
 pub record Follows (floor : FloorId) (before : List Entry) (receipt : ℕ × Entry) : Type 0 where
   pub number : receipt.0 ≡ length before
   pub outcome : receipt.1.outcome ≡ (next floor.setup.tables (state_of floor.setup before) receipt.1.step).outcome
-
--- a turn: the machine's next step is one entry more, which the seat owns and has a receipt of
-pub record Turns (floor : FloorId) (old new : HallView) (seat turned : SeatView) (step : Step) (receipt : ℕ × Entry) : Type 0 where
-  pub number : receipt.0 ≡ length old.entries
-  pub entry : receipt.1 ≡ record { step = step; outcome = (next floor.setup.tables (state_of floor.setup old.entries) step).outcome }
-  pub entries : new.entries ≡ old.entries ++ receipt.1 ∷ []
-  pub owners : new.owners ≡ old.owners ++ seat.number ∷ []
-  pub violation : IsFirstOf floor.setup new.entries new.violation
-  pub added : turned ≡ with_receipt seat receipt

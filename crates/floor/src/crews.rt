@@ -58,7 +58,7 @@ fn fulfil<F: Naming>(
     seat: &mut Seat<F>,
     wish: Wish,
 ) -> Result<Option<Receipt<F>>, TurnFault>
-    ensures met { IfOk result (λ made. Meets F.floor wish seat.old seat.new made) }
+    ensures met { IfOk result (Meets F.floor wish seat.old seat.new) }
     ensures err { OnErr result (seat.new ≡ seat.old) }
     ensures goes_on { GoesOn seat.old seat.new }
 {

@@ -43,14 +43,14 @@ pub struct Floor<F: Naming> {
 }
 
 impl<F: Naming> Floor<F> {
-    ghost use Rattle.std.specs.Prelude.{◌≡◌, ◌<◌, ◌≤◌, ◌↔◌, None, map, IfErr, IfNone, IfOk, IfSome, IsErrOf, MatchResult, OnErr};
+    ghost use Rattle.std.specs.Prelude.{◌≡◌, map, IfErr, IfOk, MatchResult, OnErr};
     ghost use Rattle.std.specs.List.{range_with_len};
-    ghost use Rattle.machine.specs.Restraint.{AreRestrained};
-    ghost use Rattle.record.specs.View.{IsLegal};
     ghost use Rattle.floor.specs.FloorId.{floor_id};
-    ghost use Rattle.floor.specs.Turning.{IsFirstOf, new_seat, recorded_at, with_receipt};
-    ghost use Rattle.floor.specs.SeatCalling.{HadNone, WasDrawn, WasForeign, WasFull, WasIts};
-    ghost use Rattle.floor.specs.Closing.{AllReceived, AllStand, AllThere, AreHistories, HaveOwners, IsMissing};
+    ghost use Rattle.floor.specs.Opening.{IsFloorSize, IsUnopened};
+    ghost use Rattle.floor.specs.Turning.{new_seat};
+    ghost use Rattle.floor.specs.SeatCalling.{Receives, ReceivesAny, WasDrawRefused, WasRefused};
+    ghost use Rattle.floor.specs.Accounts.{IsWholeAccount};
+    ghost use Rattle.floor.specs.Closing.{IsMissing};
 
     /// Opens a world under a setup, with so many seats round it and room for so many entries. The seats come in the order of
     /// their numbers, without receipts.
@@ -65,9 +65,7 @@ impl<F: Naming> Floor<F> {
         capacity: u32,
     ) -> Result<(Floor<F>, Vec<Seat<F>>), FloorFault>
         requires { F.floor ≡ floor_id ground setup.now seats capacity }
-        ensures no_seats { IsErrOf result FloorFault.NoSeats ↔ (seats ≡ 0) }
-        ensures too_many_seats { IsErrOf result FloorFault.TooManySeats ↔ (64 < seats) }
-        ensures over_limit { IsErrOf result FloorFault.OverLimit ↔ ((0 < seats) × (seats ≤ 64) × (1000000 < capacity)) }
+        ensures size { MatchResult result (λ _. IsFloorSize seats capacity) (IsUnopened seats capacity) }
         ensures seats { IfOk result (λ opened. opened.1.items ≡ map new_seat (range_with_len 0 seats)) }
     {
         if seats == 0 {
@@ -98,12 +96,8 @@ impl<F: Naming> Floor<F> {
         seat: &mut Seat<F>,
         step: Step,
     ) -> Result<Receipt<F>, TurnFault>
-        ensures step { IfOk result (λ receipt. receipt.1.step ≡ step) }
-        ensures its { IfOk result (λ receipt. WasIts F.floor seat.old receipt) }
-        ensures foreign { IsErrOf result TurnFault.NotYours → WasForeign F.floor seat.old step }
-        ensures full { IsErrOf result TurnFault.Full → WasFull F.floor seat.old }
-        ensures added { IfOk result (λ receipt. seat.new ≡ with_receipt seat.old receipt) }
-        ensures err { OnErr result (seat.new ≡ seat.old) }
+        ensures ok { IfOk result (Receives F.floor seat.old seat.new step) }
+        ensures err { IfErr result (WasRefused F.floor seat.old seat.new step) }
     {
         self.hall.lock(wait).turn(seat, step)
     }
@@ -116,13 +110,8 @@ impl<F: Naming> Floor<F> {
         seat: &mut Seat<F>,
         word: u32,
     ) -> Result<Option<Receipt<F>>, TurnFault>
-        ensures drawn { IfOk result (λ made. IfSome made (λ receipt. WasDrawn F.floor seat.old word receipt)) }
-        ensures idle { IfOk result (λ made. IfNone made (HadNone F.floor seat.old)) }
-        ensures yours { ¬ IsErrOf result TurnFault.NotYours }
-        ensures full { IsErrOf result TurnFault.Full → WasFull F.floor seat.old }
-        ensures added { IfOk result (λ made. IfSome made (λ receipt. seat.new ≡ with_receipt seat.old receipt)) }
-        ensures none { IfOk result (λ made. IfNone made (seat.new ≡ seat.old)) }
-        ensures err { OnErr result (seat.new ≡ seat.old) }
+        ensures ok { IfOk result (ReceivesAny F.floor seat.old seat.new word) }
+        ensures err { IfErr result (WasDrawRefused F.floor seat.old seat.new) }
     {
         self.hall.lock(wait).turn_any(seat, word)
     }
@@ -134,17 +123,9 @@ impl<F: Naming> Floor<F> {
         self,
         seats: Vec<Seat<F>>,
     ) -> Result<Closed<F>, (CloseFault, Floor<F>, Vec<Seat<F>>)>
-        ensures missing { MatchResult result (λ _. AllThere F.floor.seats seats.items) (λ _. IsMissing F.floor.seats seats.items) }
+        ensures closed { IfOk result (IsWholeAccount F.floor seats.items) }
+        ensures missing { OnErr result (IsMissing F.floor.seats seats.items) }
         ensures back { IfErr result (λ refused. (refused.0 ≡ CloseFault.SeatMissing) × (refused.1 ≡ self) × (refused.2.items ≡ seats.items)) }
-        ensures setup { IfOk result (λ closed. closed.recording ≡ recorded_at F.floor closed.recording.entries closed.owners.items) }
-        ensures legal { IfOk result (λ closed. IsLegal closed.recording) }
-        ensures owners { IfOk result (λ closed. HaveOwners F.floor closed.recording.entries closed.owners.items) }
-        ensures histories { IfOk result (λ closed. AreHistories closed.recording.entries closed.owners.items seats.items) }
-        ensures stand { IfOk result (λ closed. AllStand closed.recording.entries seats.items) }
-        ensures received { IfOk result (λ closed. AllReceived closed.recording.entries seats.items) }
-        ensures violation { IfOk result (λ closed. IsFirstOf F.floor.setup closed.recording.entries closed.violation) }
-        ensures clean { AreRestrained F.floor.setup.tables → IfOk result (λ closed. closed.violation ≡ None) }
-        ensures seats { IfOk result (λ closed. closed.seats.items ≡ seats.items) }
     {
         if !all_there(&seats, self.seats) {
             return Err((CloseFault::SeatMissing, self, seats));

@@ -1,7 +1,7 @@
 //! The hall, which lies behind the lock: a world, and what was done in it.
 
-ghost use Rattle.std.specs.Prelude.{◌≡◌, ◌<◌, IfOk, OnErr, OnOk, vec_len, vec_capacity};
-ghost use Rattle.floor.specs.inner.Keeping.{Advances, IsSame};
+ghost use Rattle.std.specs.Prelude.{◌≡◌, ◌<◌, IfOk, OnErr, OnOk};
+ghost use Rattle.floor.specs.inner.Keeping.{Advances, HasRoomForOne, IsSame};
 
 use crate::belonging::is_of;
 use crate::closing::{Closed, compare_all};
@@ -49,7 +49,7 @@ pub struct Hall<F: Naming> {
 
 impl<F: Naming> Drop for Hall<F> {
     fn drop(self) {
-        // Whoever drops one has a call to prove, and not the drops of all its parts.
+        // All its parts go in one call.
         let Hall {
             world: _,
             watch: _,
@@ -79,28 +79,19 @@ impl<F: Naming> Model for Hall<F> {
 }
 
 impl<F: Naming> Hall<F> {
-    ghost use Rattle.std.specs.Prelude.{◌≡◌, ◌<◌, ◌≤◌, [], None, length, true, false, IfOk, IfNone, IfSome, IsErrOf, IsOkUnless, OnErr};
-    ghost use Rattle.base.specs.declared.step.Step.{Step};
-    ghost use Rattle.machine.specs.Restraint.{AreRestrained};
-    ghost use Rattle.record.specs.View.{IsLegal};
-    ghost use Rattle.floor.specs.Turning.{Draws, IsFirstOf, Turns, is_its, its_ready, recorded_at};
+    ghost use Rattle.std.specs.Prelude.{◌≡◌, ◌<◌, length, true, IfErr, IfOk, IsOkUnless, OnErr};
+    ghost use Rattle.floor.specs.Turning.{is_its};
     ghost use Rattle.floor.specs.SeatCalling.{IsMoment};
-    ghost use Rattle.floor.specs.Closing.{AreHistories, HaveOwners};
+    ghost use Rattle.floor.specs.HallCalling.{LeavesBoth, Refuses, RefusesDraw, Turns, TurnsAny};
+    ghost use Rattle.floor.specs.Accounts.{IsAccount};
 
     /// Makes one step for a seat, and answers the receipt of its entry. A refused turn changes neither hall nor seat.
     ///
     /// It is refused `NotYours` exactly where the step doesn't belong to the seat, and else `Full` exactly where there are
     /// as many entries as the floor takes.
     pub fn turn(&mut self, seat: &mut Seat<F>, step: Step) -> Result<Receipt<F>, TurnFault>
-        ensures not_yours { is_its F.floor self.old.entries seat.old.number step ≡ false → IsErrOf result TurnFault.NotYours }
-        ensures full { is_its F.floor self.old.entries seat.old.number step ≡ true → length self.old.entries ≡ F.floor.capacity →
-            IsErrOf result TurnFault.Full }
-        ensures else_memory { is_its F.floor self.old.entries seat.old.number step ≡ true → length self.old.entries < F.floor.capacity →
-            IsOkUnless result TurnFault.NoMemory }
-        ensures within { length self.old.entries ≤ F.floor.capacity }
-        ensures moment { IsMoment F.floor seat.old self.old.entries self.old.owners }
-        ensures ok { IfOk result (λ receipt. Turns F.floor self.old self.new seat.old seat.new step receipt) }
-        ensures err { OnErr result ((self.new ≡ self.old) × (seat.new ≡ seat.old)) }
+        ensures ok { IfOk result (Turns F.floor self.old self.new seat.old seat.new step) }
+        ensures err { IfErr result (Refuses F.floor self.old self.new seat.old seat.new step) }
     {
         if !is_of(&self.world, self.seats, seat.number, step) {
             self.compare(seat);
@@ -123,15 +114,8 @@ impl<F: Naming> Hall<F> {
         seat: &mut Seat<F>,
         word: u32,
     ) -> Result<Option<Receipt<F>>, TurnFault>
-        ensures full { length self.old.entries ≡ F.floor.capacity → IsErrOf result TurnFault.Full }
-        ensures else_memory { length self.old.entries < F.floor.capacity → IsOkUnless result TurnFault.NoMemory }
-        ensures within { length self.old.entries ≤ F.floor.capacity }
-        ensures moment { IsMoment F.floor seat.old self.old.entries self.old.owners }
-        ensures none { IfOk result (λ made. IfNone made (its_ready F.floor self.old.entries seat.old.number ≡ [])) }
-        ensures unturned { IfOk result (λ made. IfNone made ((self.new ≡ self.old) × (seat.new ≡ seat.old))) }
-        ensures some { IfOk result (λ made. IfSome made (λ receipt. (step : Step) × Draws F.floor self.old.entries seat.old.number word step
-            × Turns F.floor self.old self.new seat.old seat.new step receipt)) }
-        ensures err { OnErr result ((self.new ≡ self.old) × (seat.new ≡ seat.old)) }
+        ensures ok { IfOk result (TurnsAny F.floor self.old self.new seat.old seat.new word) }
+        ensures err { IfErr result (RefusesDraw F.floor self.old self.new seat.old seat.new) }
     {
         if self.recording.entries().len() >= self.capacity as usize {
             self.compare(seat);
@@ -150,13 +134,7 @@ impl<F: Naming> Hall<F> {
 
     /// What was done in the hall, once its entries were compared with what the seats have.
     pub fn close(mut self, mut seats: Vec<Seat<F>>) -> Closed<F>
-        ensures setup { result.recording ≡ recorded_at F.floor result.recording.entries result.owners.items }
-        ensures legal { IsLegal result.recording }
-        ensures owners { HaveOwners F.floor result.recording.entries result.owners.items }
-        ensures histories { AreHistories result.recording.entries result.owners.items seats.items }
-        ensures violation { IsFirstOf F.floor.setup result.recording.entries result.violation }
-        ensures clean { AreRestrained F.floor.setup.tables → result.violation ≡ None }
-        ensures seats { result.seats.items ≡ seats.items }
+        ensures { IsAccount F.floor seats.items result }
     {
         no_violation_under_restrained_tables();
         compare_all(&mut self, &mut seats);
@@ -173,7 +151,7 @@ impl<F: Naming> Hall<F> {
             token: _,
             of: _,
         } = self;
-        // Called for its contract: there is one opening value for each block.
+        // There is one opening value for each block.
         let _opening = recording.opening();
         Closed {
             recording,
@@ -189,7 +167,7 @@ impl<F: Naming> Hall<F> {
         requires room { length self.old.entries < F.floor.capacity }
         ensures else_memory { IsOkUnless result TurnFault.NoMemory }
         ensures moment { IsMoment F.floor seat.old self.old.entries self.old.owners }
-        ensures ok { IfOk result (λ receipt. Turns F.floor self.old self.new seat.old seat.new step receipt) }
+        ensures ok { IfOk result (Turns F.floor self.old self.new seat.old seat.new step) }
         ensures err { OnErr result ((self.new ≡ self.old) × (seat.new ≡ seat.old)) }
     {
         if let Err(_) = grow(&mut self.owners, &mut seat.receipts) {
@@ -216,8 +194,7 @@ impl<F: Naming> Hall<F> {
 
     /// A seat's receipts are its history: what a call finds is a moment at its floor.
     pub(crate) fn compare(&mut self, seat: &mut Seat<F>)
-        ensures moment { IsMoment F.floor seat.old self.old.entries self.old.owners }
-        ensures same { (self.new ≡ self.old) × (seat.new ≡ seat.old) }
+        ensures { LeavesBoth F.floor self.old self.new seat.old seat.new }
     {
         compare_seat(&self.log, &mut self.token, &mut seat.token);
     }
@@ -225,7 +202,7 @@ impl<F: Naming> Hall<F> {
 
 /// Makes room for one more owner and one more receipt.
 fn grow<F: Naming>(owners: &mut Vec<u32>, receipts: &mut Vec<Receipt<F>>) -> Result<(), NoMemory>
-    ensures room { OnOk result ((vec_len owners.new < vec_capacity owners.new) × (vec_len receipts.new < vec_capacity receipts.new)) }
+    ensures room { OnOk result (HasRoomForOne owners.new × HasRoomForOne receipts.new) }
     ensures same { (owners.new.items ≡ owners.old.items) × (receipts.new.items ≡ receipts.old.items) }
 {
     owners.reserve(1)?;
@@ -241,7 +218,7 @@ fn advance(
     step: Step,
 ) -> Result<Made, NoMemory>
     requires { seat < recording.old.seats }
-    ensures ok { IfOk result (λ made. Advances world.old world.new recording.old recording.new seat step made) }
+    ensures ok { IfOk result (Advances world.old world.new recording.old recording.new seat step) }
     ensures err { OnErr result (IsSame world.old world.new × (recording.new ≡ recording.old)) }
 {
     let outcome = world.ready(step)?;

@@ -1,14 +1,12 @@
 //! A hall and its seats, before the first turn.
 
-ghost use Rattle.std.specs.Prelude.{◌≡◌, ◌<◌, ◌≤◌, [], map, IfOk, OnOk};
+ghost use Rattle.std.specs.Prelude.{◌≡◌, [], map, IfOk, OnOk};
 ghost use Rattle.std.specs.List.{range_with_len};
 ghost use Rattle.floor.specs.FloorId.{floor_id};
+ghost use Rattle.floor.specs.Opening.{IsSeatCount};
 ghost use Rattle.floor.specs.Turning.{new_seat};
-ghost use Rattle.floor.specs.inner.Keeping.{IsStart};
+ghost use Rattle.floor.specs.inner.Keeping.{AreParts, OpensUnder};
 ghost use Rattle.floor.specs.inner.Tokens.{keeper};
-ghost use Rattle.monitor.specs.Watching.{HasSeen};
-ghost use Rattle.record.specs.View.{opened_of};
-ghost use Rattle.world.specs.View.{View};
 
 use crate::grounds::{Ground, Naming};
 use crate::halls::Hall;
@@ -33,8 +31,7 @@ pub fn open_hall<F: Naming>(
     capacity: u32,
 ) -> Result<(Hall<F>, Vec<Seat<F>>), NoMemory>
     requires name { F.floor ≡ floor_id ground setup.now seats capacity }
-    requires some { 0 < seats }
-    requires few { seats ≤ 64 }
+    requires size { IsSeatCount seats }
     ensures { IfOk result (λ opened. opened.1.items ≡ map new_seat (range_with_len 0 seats)) }
 {
     let (world, watch, recording) = open_parts(alloc, setup, seats)?;
@@ -63,11 +60,8 @@ fn open_parts(
     setup: &Setup,
     seats: u32,
 ) -> Result<(World, Watch, Recording), NoMemory>
-    requires some { 0 < seats }
-    requires few { seats ≤ 64 }
-    ensures world { IfOk result (λ parts. IsStart setup.now parts.0) }
-    ensures watch { IfOk result (λ parts. (world : View) → HasSeen world setup.now.opening [] parts.1) }
-    ensures recording { IfOk result (λ parts. parts.2 ≡ opened_of seats setup.now.shape setup.now.tables setup.now.opening) }
+    requires { IsSeatCount seats }
+    ensures { IfOk result (λ parts. AreParts seats setup.now parts.0 parts.1 parts.2) }
 {
     let world = open_world(alloc, setup)?;
     let watch = Watch::open(alloc, setup.opening())?;
@@ -77,9 +71,8 @@ fn open_parts(
 
 /// A recording of so many seats under a setup, without entries.
 fn open_recording(alloc: Global, setup: &Setup, seats: u32) -> Result<Recording, NoMemory>
-    requires some { 0 < seats }
-    requires few { seats ≤ 64 }
-    ensures { IfOk result (λ recording. recording ≡ opened_of seats setup.now.shape setup.now.tables setup.now.opening) }
+    requires { IsSeatCount seats }
+    ensures { IfOk result (OpensUnder seats setup.now) }
 {
     let opening = Vec::from_slice(alloc, setup.opening())?;
     match Recording::open_seats(alloc, setup.shape(), setup.tables(), opening, seats) {

@@ -1,16 +1,14 @@
 //! How many of each block's deliveries are ready for each seat: so a draw lists nothing, and a step counts one block again.
 
-ghost use Rattle.std.specs.Prelude.{◌≡◌, ◌+◌, ◌<◌, ◌≤◌, ◌^◌, ◌-◌, [], ℕ, All, IfNone, IfOk, IfSome, IsSome, None, Some};
-ghost use Rattle.std.specs.Prelude.{filter, length, slice_get, slice_index, slice_set};
-ghost use Rattle.world.specs.Enabled.{enabled_at_block};
-ghost use Rattle.world.specs.inner.Counts.{Rows};
-ghost use Rattle.floor.specs.Belonging.{belongs, ready_for};
-ghost use Rattle.floor.specs.inner.Sharing.{AreRecounted, AreShared, IsDrawn, no_rows, share};
+ghost use Rattle.std.specs.Prelude.{◌≡◌, ◌+◌, ◌<◌, ◌^◌, [], ℕ, IfNone, IfOk, IfSome, IsSome, None};
+ghost use Rattle.std.specs.Prelude.{length, slice_get, slice_index};
+ghost use Rattle.floor.specs.Opening.{IsSeatCount};
+ghost use Rattle.floor.specs.inner.Sharing.{AreOfBlocks, AreOfNone, AreRecounted, AreShared, AreTallied, IsDrawn, ready_in, ready_of_block};
 
 use crate::belonging::{is_of, owner};
 use base::{BlockId, NoMemory, Step};
 use std::alloc::Global;
-use trials::Setup;
+use trials::{Setup, setups_are_lawful};
 use world::{Counts, DeliveryKind, World};
 
 /// How many of a block's deliveries belong to each seat. Those whose controller isn't there belong to all.
@@ -21,7 +19,8 @@ struct SeatTally {
 }
 
 impl SeatTally {
-    ghost use Rattle.std.specs.Prelude.{◌≡◌, ◌+◌, ◌<◌, ◌^◌, ◌-◌, IfNone, IfSome, slice_index, slice_set};
+    ghost use Rattle.std.specs.Prelude.{◌≡◌, ◌+◌, ◌<◌, ◌^◌, ◌-◌, IfNone, IfSome, slice_index};
+    ghost use Rattle.floor.specs.inner.Sharing.{HasOneMore};
 
     /// How many belong to a seat.
     fn of(&self, seat: usize) -> u32
@@ -37,7 +36,7 @@ impl SeatTally {
         requires within { IfSome owner (λ seat. seat < 64) }
         requires room { IfSome owner (λ seat. slice_index self.old.each seat < 2 ^ 32 - 1) }
         requires room_for_all { self.old.all < 2 ^ 32 - 1 }
-        ensures some { IfSome owner (λ seat. self.new.each ≡ slice_set self.old.each seat (slice_index self.old.each seat + 1)) }
+        ensures some { IfSome owner (HasOneMore self.old.each self.new.each) }
         ensures some_all { IfSome owner (λ seat. self.new.all ≡ self.old.all) }
         ensures none { IfNone owner (self.new.each ≡ self.old.each) }
         ensures none_all { IfNone owner (self.new.all ≡ self.old.all + 1) }
@@ -52,11 +51,10 @@ impl SeatTally {
 /// For each of so many seats the counts of a setup's blocks, in which nothing is counted.
 pub(crate) fn open_shares(alloc: Global, setup: &Setup, seats: u32) -> Result<Vec<Counts>, NoMemory>
     ensures count { IfOk result (λ shares. length shares.items ≡ seats) }
-    ensures none { IfOk result (λ shares. All (λ rows. rows ≡ no_rows (length setup.now.opening)) shares.items) }
+    ensures none { IfOk result (λ shares. AreOfNone (length setup.now.opening) shares.items) }
 {
+    setups_are_lawful(setup);
     let blocks = setup.shape().blocks();
-    // Called for its contract: there is one opening value for each block.
-    let _opening = setup.opening();
     let mut shares = Vec::with_capacity(alloc, seats as usize)?;
     for _ in 0..seats {
         let counts = Counts::open(alloc, blocks)?;
@@ -67,9 +65,8 @@ pub(crate) fn open_shares(alloc: Global, setup: &Setup, seats: u32) -> Result<Ve
 
 /// How many deliveries of a kind of a block belong to each seat.
 fn tally_of(world: &World, seats: u32, kind: DeliveryKind, block: BlockId) -> SeatTally
-    requires some { 0 < seats }
-    requires few { seats ≤ 64 }
-    ensures each { (seat : ℕ) → seat < seats → slice_index result.each seat + result.all ≡ share seats world.now seat kind block }
+    requires { IsSeatCount seats }
+    ensures each { AreTallied seats world.now kind block result.each result.all }
     ensures few { (seat : ℕ) → seat < seats → slice_index result.each seat + result.all < 2 ^ 32 }
 {
     let mut tally = SeatTally {
@@ -87,10 +84,9 @@ fn tally_of(world: &World, seats: u32, kind: DeliveryKind, block: BlockId) -> Se
 
 /// Counts again how many of a block's deliveries are ready for each seat, if the block is there.
 pub(crate) fn recount(shares: &mut Vec<Counts>, world: &World, seats: u32, block: BlockId)
-    requires some { 0 < seats }
-    requires few { seats ≤ 64 }
+    requires size { IsSeatCount seats }
     requires count { length shares.old.items ≡ seats }
-    requires level { (seat : ℕ) (rows : Rows) → slice_get shares.old.items seat ≡ Some rows → length rows.requests ≡ length world.now.state.blocks }
+    requires level { AreOfBlocks (length world.now.state.blocks) shares.old.items }
     ensures there { IsSome (slice_get world.now.state.blocks block.0) → AreRecounted seats world.now block shares.old.items shares.new.items }
     ensures absent { slice_get world.now.state.blocks block.0 ≡ None → shares.new.items ≡ shares.old.items }
 {
@@ -118,11 +114,10 @@ pub(crate) fn draw(
     seat: u32,
     word: u32,
 ) -> Option<Step>
-    requires some { 0 < seats }
     requires within { seat < seats }
     requires shared { AreShared seats world.now shares.now }
-    ensures none { IfNone result (ready_for seats world.now.shape.caches world.now.tables world.now.state seat ≡ []) }
-    ensures some { IfSome result (λ step. IsDrawn (ready_for seats world.now.shape.caches world.now.tables world.now.state seat) word step) }
+    ensures none { IfNone result (ready_in seats world.now seat ≡ []) }
+    ensures some { IfSome result (IsDrawn (ready_in seats world.now seat) word) }
 {
     if world.broken() {
         return None;
@@ -155,8 +150,7 @@ fn nth_of(
     n: u32,
 ) -> Option<Step>
     requires { 0 < seats }
-    ensures { result ≡ slice_get (filter (λ step. belongs seats world.now.shape.caches world.now.state seat step)
-        (enabled_at_block world.now.tables kind world.now.state block)) n }
+    ensures { result ≡ slice_get (ready_of_block seats world.now seat kind block) n }
 {
     let mut left = n;
     for k in 0..world.enabled_count_of(kind, block) {

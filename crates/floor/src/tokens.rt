@@ -1,9 +1,7 @@
 //! What ties the seats to the recording under the lock: a word that never changes, and a token in the hall and in each seat. All of
 //! it is there for the proofs alone.
 
-ghost use Rattle.std.specs.Prelude.{◌≡◌, ◌+◌, [], ◌∷◌, ◌++◌, length};
-ghost use Rattle.floor.specs.inner.Tokens.{keeper, sitting};
-ghost use Rattle.floor.specs.Histories.{history};
+ghost use Rattle.floor.specs.inner.Tokens.{AddsEntry, AreTied, HasDealt, IsDealer, IsNewlyDealt, IsSameToken, TellsHistory};
 
 use atomic_table::{Join, Play, Seat as TableSeat, Split, Table, TableRule};
 use record::Entry;
@@ -102,26 +100,18 @@ pub type Token = TableSeat<Entry, TokenView>;
 
 /// A token for the next seat of an empty recording.
 pub fn deal_seat(log: &Log, hall: &mut Token) -> Token
-    requires table { hall.old.table_id ≡ log.now.shared.table_id }
-    requires one { log.now.shared.table_id.words ≡ 1 }
-    requires keeps { hall.old.me ≡ (keeper [] [] hall.old.me.0.next, []) }
-    ensures hall { (hall.new.me ≡ (keeper [] [] (hall.old.me.0.next + 1), [])) × (hall.new.table_id ≡ hall.old.table_id) }
-    ensures seat { (result.me ≡ (sitting hall.old.me.0.next [], [])) × (result.table_id ≡ hall.old.table_id) }
+    requires { IsDealer log.now.shared.table_id hall.old }
+    ensures hall { HasDealt hall.old hall.new }
+    ensures seat { IsNewlyDealt hall.old result }
 {
     log.shared.split_seat::<Deal>(hall)
 }
 
 /// Adds an entry of the seat to the recording, of which it had what it owns.
 pub fn add_entry(log: &Log, hall: &mut Token, seat: &mut Token, entry: &Entry)
-    requires table { hall.old.table_id ≡ log.now.shared.table_id }
-    requires one { log.now.shared.table_id.words ≡ 1 }
-    requires keeps { hall.old.me ≡ (keeper hall.old.me.0.entries hall.old.me.0.owners hall.old.me.0.next, []) }
-    requires same { seat.old.table_id ≡ log.now.shared.table_id }
-    requires sits { seat.old.me ≡ (sitting seat.old.me.0.number seat.old.me.0.made, []) }
-    ensures hall { hall.new.me ≡ (keeper (hall.old.me.0.entries ++ entry.now ∷ []) (hall.old.me.0.owners ++ seat.old.me.0.number ∷ []) hall.old.me.0.next, []) }
-    ensures seat { seat.new.me ≡ (sitting seat.old.me.0.number (seat.old.me.0.made ++ (length hall.old.me.0.entries, entry.now) ∷ []), []) }
-    ensures table { (hall.new.table_id ≡ hall.old.table_id) × (seat.new.table_id ≡ seat.old.table_id) }
-    ensures history { seat.old.me.0.made ≡ history seat.old.me.0.number hall.old.me.0.entries hall.old.me.0.owners }
+    requires { AreTied log.now.shared.table_id hall.old seat.old }
+    ensures history { TellsHistory hall.old seat.old }
+    ensures added { AddsEntry hall.old seat.old entry.now hall.new seat.new }
 {
     let spare = log.shared.split_seat::<Spare>(hall);
     let token = mem::replace(seat, spare);
@@ -134,14 +124,9 @@ pub fn add_entry(log: &Log, hall: &mut Token, seat: &mut Token, entry: &Entry)
 
 /// What the seat has is what it owns of the recording.
 pub fn compare_seat(log: &Log, hall: &mut Token, seat: &mut Token)
-    requires table { hall.old.table_id ≡ log.now.shared.table_id }
-    requires one { log.now.shared.table_id.words ≡ 1 }
-    requires keeps { hall.old.me ≡ (keeper hall.old.me.0.entries hall.old.me.0.owners hall.old.me.0.next, []) }
-    requires same { seat.old.table_id ≡ log.now.shared.table_id }
-    requires sits { seat.old.me ≡ (sitting seat.old.me.0.number seat.old.me.0.made, []) }
-    ensures history { seat.old.me.0.made ≡ history seat.old.me.0.number hall.old.me.0.entries hall.old.me.0.owners }
-    ensures hall { (hall.new.me ≡ hall.old.me) × (hall.new.table_id ≡ hall.old.table_id) }
-    ensures seat { (seat.new.me ≡ seat.old.me) × (seat.new.table_id ≡ seat.old.table_id) }
+    requires { AreTied log.now.shared.table_id hall.old seat.old }
+    ensures history { TellsHistory hall.old seat.old }
+    ensures same { IsSameToken hall.old hall.new × IsSameToken seat.old seat.new }
 {
     let spare = log.shared.split_seat::<Spare>(hall);
     let token = mem::replace(seat, spare);

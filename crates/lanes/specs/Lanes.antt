@@ -19,6 +19,7 @@ use Rattle.cursors.specs.declared.cursor.Cursor.{Cursor}
 use Rattle.schedule.specs.Choices.{offers_from}
 use Rattle.schedule.specs.Listed.{IsMarked, Listed, nothing_listed}
 use Rattle.lanes.specs.declared.lanes.Lanes.{Lanes}
+use Rattle.world.specs.View.{View}
 
 -- the parts that a cursor holds, in use or kept for later, and those that it may want
 pub record Stocked : Type 0 where
@@ -105,6 +106,15 @@ pub record AreLeft (tree : Tree) (l : Laned) : Type 0 where
 pub record AreReady (tables : Tables) (state : State) (cores : List Core) (l : Laned) : Type 0 where
   pub marked : state.broken ≡ false → (lane : ℕ) → lane < length l.trees → IsMarked tables state (listed_at l lane)
   pub counted : state.broken ≡ false → (lane : ℕ) → lane < length l.trees → slice_index l.ready lane ≡ puttable tables state cores (offers_at l lane)
+
+-- what is kept of each lane is right, and so are the marks and the counts, in a world and with these cores
+pub record AreCurrent {A B : Type 0} (world : View) (cores : List Core) (l : Lanes A B) : Type 0 where
+  pub kept : AreLanesKept (laned l)
+  pub ready : AreReady world.tables world.state cores (laned l)
+
+-- so are the marks and the counts of these lanes
+abbrev pub AreReadyIn : {A B : Type 0} → View → List Core → Lanes A B → Type 0
+AreReadyIn world cores l = AreReady world.tables world.state cores (laned l)
 
 -- the cores that are free are those that were
 abbrev pub AreAsFree : List Core → List Core → Type 0

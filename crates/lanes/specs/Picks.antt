@@ -1,11 +1,17 @@
 -- Choices by the lane of an offer, and its place there.
-use Rattle.std.specs.Prelude.{◌+◌, ◌<◌, length, take}
+use Rattle.std.specs.Prelude.{◌≡◌, ◌+◌, ◌<◌, Bool, List, false, length, take}
 use Rattle.std.specs.List.{sum}
-use Rattle.lanes.specs.Lanes.{Laned, offers_at}
+use Rattle.machine.specs.declared.made.Made.{Made}
+use Rattle.machine.specs.Machine.{State}
+use Rattle.cores.specs.Cores.{Core}
+use Rattle.lanes.specs.Lanes.{AreAsFree, AreLanesKept, AreLeft, AreReady, FollowsStep, Laned, laned, offers_at, whole}
+use Rattle.schedule.specs.Choices.{chosen_step, rest_after}
 use Rattle.schedule.specs.declared.choosing.Choice.{Choice}
 use Rattle.schedule.specs.declared.choosing.Choice.TheVariants as choice
+use Rattle.lanes.specs.declared.lanes.Lanes.{Lanes}
 use Rattle.lanes.specs.declared.picking.Pick.{Pick}
 use Rattle.lanes.specs.declared.picking.Pick.TheVariants.{Offer, Deliver}
+use Rattle.world.specs.View.{View}
 
 -- the choice that a pick is: the number of an offer is its place behind all that the lanes before its own offer
 abbrev pub choice_of : Laned → Pick → Choice
@@ -16,3 +22,16 @@ choice_of l (Deliver s) = choice.Deliver s
 abbrev pub IsPicked : Pick → Laned → Type 0
 IsPicked (Offer lane place ask) l = (lane < length l.trees) × (place < length (offers_at l lane))
 IsPicked (Deliver s) l = Unit {0}
+
+-- what is kept of each lane is right, and a pick is of them
+pub record HasPick {A B : Type 0} (pick : Pick) (l : Lanes A B) : Type 0 where
+  pub kept : AreLanesKept (laned l)
+  pub picked : IsPicked pick (laned l)
+
+-- a pick was followed: what is left is what is left behind its choice. Where the marks and counts were right at the moment before its step,
+-- they are right at that behind it; but if no core may have turned, this is promised where none has
+pub record FollowsPick {A B : Type 0} (pick : Pick) (made : Made) (turned : Bool) (world : View) (cores : List Core) (old new : Lanes A B) : Type 0 where
+  pub left : AreLeft (rest_after (choice_of (laned old) pick) (whole (laned old))) (laned new)
+  pub ready : (before : State) (cores_before : List Core) → AreReady world.tables before cores_before (laned old) →
+      FollowsStep world.tables (chosen_step (choice_of (laned old) pick)) made before world.state cores_before cores →
+      (turned ≡ false → AreAsFree cores_before cores) → AreReady world.tables world.state cores (laned new)

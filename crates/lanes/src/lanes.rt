@@ -28,7 +28,7 @@ pub struct Lanes<'s, A: Allocator, B: Allocator> {
 
 impl<'s, A: Allocator, B: Allocator> Drop for Lanes<'s, A, B> {
     fn drop(self) {
-        // Whoever drops one has a call to prove, and not the drops of all its parts.
+        // All its parts go in one call.
         let Lanes {
             lanes: _,
             lengths: _,

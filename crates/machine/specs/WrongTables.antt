@@ -182,3 +182,16 @@ ReadOnlyOwnerKeepsGoing = KeepsGoing read_only_owner
 -- but a store waits for ever
 abbrev pub ReadOnlyOwnerIsStuck : Type 0
 ReadOnlyOwnerIsStuck = ¬ Unstuck read_only_owner (after read_only_owner (opened two_by_one (0 ∷ [])) (load 0 ∷ request 0 ∷ response 0 ∷ [])).state
+
+-- tables with one wrong cell are refused: those that are unsafe, and one that gets stuck
+pub record WrongTablesAreRefused : Type 0 where
+  pub hasty_reader : HastyReaderIsUnsafe
+  pub hasty_load : HastyLoadIsUnsafe
+  pub blank_cache : BlankCacheIsUnsafe
+  pub hasty_writer : HastyWriterIsUnsafe
+  pub second_writer : SecondWriterIsUnsafe
+  pub dropped_value : DroppedValueIsUnsafe
+  pub blank_directory : BlankDirectoryIsUnsafe
+  pub deaf_sharer : DeafSharerIsStuck
+  pub kept_e : KeptEIsUnsafe
+  pub blank_reader : BlankReaderIsUnsafe

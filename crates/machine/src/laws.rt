@@ -10,27 +10,19 @@ ghost use Rattle.machine.specs.Coherence.{Met, Safe};
 ghost use Rattle.machine.specs.Restraint.{AreRestrained};
 ghost use Rattle.machine.specs.Going.{AreNeverStuck, KeepsGoing};
 ghost use Rattle.machine.specs.Unstuck.{Unstuck, Flowing};
-ghost use Rattle.machine.specs.CoherenceRows.{StoreThenLoad, StaleLoadIsRefused, EarlyLoadIsRefused, OneWriterOrManyReaders};
-ghost use Rattle.machine.specs.WrongTables.{HastyReaderIsUnsafe, HastyLoadIsUnsafe, BlankCacheIsUnsafe, HastyWriterIsUnsafe, SecondWriterIsUnsafe};
-ghost use Rattle.machine.specs.WrongTables.{DroppedValueIsUnsafe, BlankDirectoryIsUnsafe, KeptEIsUnsafe, BlankReaderIsUnsafe};
+ghost use Rattle.machine.specs.CoherenceRows.{WorkedJudgements};
+ghost use Rattle.machine.specs.WrongTables.{WrongTablesAreRefused};
 ghost use Rattle.machine.specs.WrongTables.{DeafSharerIsRestrained, DeafSharerIsStuck, DeafReaderIsRestrained, DeafReaderIsStuck};
 ghost use Rattle.machine.specs.WrongTables.{ReadOnlyOwnerKeepsGoing, ReadOnlyOwnerIsStuck};
 ghost use Rattle.machine.specs.WrongTables.{PatientDataKeepsGoing, PatientAcksKeepGoing, CrossedWaitsAreRestrained, CrossedWaitsAreStuck};
 ghost use Rattle.machine.specs.Block.{BlockState, IsBlockAmong};
 ghost use Rattle.machine.specs.Transition.{decision_of, decided_outcome, messages_of, transition};
 ghost use Rattle.machine.specs.Machine.{State, IsRefusal, next, opened, after, sent_by};
-ghost use Rattle.machine.specs.Rows.{NothingHappens, LoadFromMemory, LoadFromOwner, HeldForward, EarlyAck, StoreInE, ForwardBeforeData, LeaveE};
+ghost use Rattle.machine.specs.Rows.{WorkedRows};
 
 /// Runs of the protocol's own tables, worked out step by step.
 pub fn worked_rows()
-    ensures no_steps { NothingHappens }
-    ensures load_from_memory { LoadFromMemory }
-    ensures load_from_owner { LoadFromOwner }
-    ensures held_forward { HeldForward }
-    ensures early_ack { EarlyAck }
-    ensures store_in_e { StoreInE }
-    ensures forward_before_data { ForwardBeforeData }
-    ensures leave_e { LeaveE }
+    ensures { WorkedRows }
 {}
 
 /// A step's outcome is known before anything is done.
@@ -51,24 +43,12 @@ pub fn nothing_sent_by_a_refusal()
 
 /// What the definitions of coherence accept and refuse, worked out by hand.
 pub fn worked_judgements()
-    ensures store_then_load { StoreThenLoad }
-    ensures stale_load { StaleLoadIsRefused }
-    ensures early_load { EarlyLoadIsRefused }
-    ensures one_writer_or_many_readers { OneWriterOrManyReaders }
+    ensures { WorkedJudgements }
 {}
 
 /// Tables with one wrong cell are refused: the definitions of a safe run and of not being stuck say something.
 pub fn wrong_tables_are_refused()
-    ensures hasty_reader { HastyReaderIsUnsafe }
-    ensures hasty_load { HastyLoadIsUnsafe }
-    ensures blank_cache { BlankCacheIsUnsafe }
-    ensures hasty_writer { HastyWriterIsUnsafe }
-    ensures second_writer { SecondWriterIsUnsafe }
-    ensures dropped_value { DroppedValueIsUnsafe }
-    ensures blank_directory { BlankDirectoryIsUnsafe }
-    ensures deaf_sharer { DeafSharerIsStuck }
-    ensures kept_e { KeptEIsUnsafe }
-    ensures blank_reader { BlankReaderIsUnsafe }
+    ensures { WrongTablesAreRefused }
 {}
 
 /// Under the own tables of each protocol every run of every world is safe: each block always has one
@@ -119,16 +99,12 @@ pub fn restraint_can_get_stuck()
 
 /// Two stalls each of which lets messages flow can get stuck together.
 pub fn harmless_stalls_can_cross()
-    ensures patient_data { PatientDataKeepsGoing }
-    ensures patient_acks { PatientAcksKeepGoing }
-    ensures restrained { CrossedWaitsAreRestrained }
-    ensures stuck { CrossedWaitsAreStuck }
+    ensures patient { PatientDataKeepsGoing × PatientAcksKeepGoing }
+    ensures crossed { CrossedWaitsAreRestrained × CrossedWaitsAreStuck }
 {}
 
 /// Under MSI+E, too, restrained tables can get stuck, and tables that keep going can hold an ask.
 pub fn restraint_can_get_stuck_in_e()
-    ensures restrained { DeafReaderIsRestrained }
-    ensures stuck { DeafReaderIsStuck }
-    ensures keeps_going { ReadOnlyOwnerKeepsGoing }
-    ensures holds_asks { ReadOnlyOwnerIsStuck }
+    ensures deaf_reader { DeafReaderIsRestrained × DeafReaderIsStuck }
+    ensures read_only_owner { ReadOnlyOwnerKeepsGoing × ReadOnlyOwnerIsStuck }
 {}

@@ -39,7 +39,7 @@ impl<'s, A: Allocator, B: Allocator> Model for Moment<'s, A, B> {
 
 impl<'s, A: Allocator, B: Allocator> Drop for Moment<'s, A, B> {
     fn drop(self) {
-        // Whoever drops one has a call to prove, and not the drops of all its parts.
+        // All its parts go in one call.
         let Moment {
             world: _,
             cores: _,
@@ -50,7 +50,7 @@ impl<'s, A: Allocator, B: Allocator> Drop for Moment<'s, A, B> {
 }
 
 impl<'s, A: Allocator, B: Allocator + Clone> Moment<'s, A, B> {
-    ghost use Rattle.std.specs.Prelude.{◌≡◌, ◌<◌, ◌↔◌, IfOk, OnErr, OnOk, None, true, length};
+    ghost use Rattle.std.specs.Prelude.{◌≡◌, ◌<◌, ◌↔◌, IfOk, MatchResult, OnErr, OnOk, None, true, length};
     ghost use Rattle.machine.specs.Machine.{opened};
     ghost use Rattle.scenario.specs.Tree.{plain};
     ghost use Rattle.moment.specs.Moments.{opened_moment};
@@ -99,8 +99,7 @@ impl<'s, A: Allocator, B: Allocator + Clone> Moment<'s, A, B> {
     pub fn make(&mut self, alloc: B, k: u64) -> Result<(Step, Made), NoMemory>
         requires { k < length (choices_in self.old) }
         ensures like { IsLike self.old self.new }
-        ensures ok { IfOk result (λ made. MakesChoice self.old k made.0 made.1 self.new) }
-        ensures err { OnErr result (self.new.now ≡ None) }
+        ensures made { MatchResult result (λ made. MakesChoice self.old k made.0 made.1 self.new) (λ _. self.new.now ≡ None) }
     {
         let Some(pick) = self.lanes.pick(&self.world, &self.cores, k) else {
             unreachable!();

@@ -54,6 +54,13 @@ SeesNext world old step outcome new =
     (opening : List ℕ) (before : List Step) → HasSeen world opening before old → LeadTo opening before step outcome world →
     HasSeen world opening (before ++ step ∷ []) new
 
+-- a watch has noted a step, and this is what is wrong after it: by what there is to see, and in whatever history the watch has seen
+pub record SeesStep (world : View) (old : List ℕ) (step : Step) (outcome : Outcome) (answer : Option Violation) (new : List ℕ) : Type 0 where
+  pub noted : new ≡ noted old (block_of step) outcome
+  pub violation : Answers (scene_in world.state step outcome (slice_get old (block_of step))) answer
+  pub history : AnswersHistory world old step outcome answer
+  pub seen : SeesNext world old step outcome new
+
 -- whatever steps led to a world, if this was the last of them, with this outcome, then the answer is exactly its violation in that history
 abbrev pub AnswersLast : View → Step → Outcome → Option Violation → Type 0
 AnswersLast world step outcome answer =

@@ -158,7 +158,7 @@ fn caches_of(world: &World, block: BlockId) -> u32
     ensures { (cache : ℕ) → result ≤ cache → line_at world.now.state cache block.0 ≡ None }
 {
     let caches = world.shape().caches();
-    // Called for its contract: there is no line here, so there is none further on.
+    // There is no line here, so there is none further on.
     let _none = world.line(CacheId(caches), block);
     caches
 }

@@ -28,7 +28,7 @@ impl Watch {
     ghost use Rattle.world.specs.View.{View};
     ghost use Rattle.monitor.specs.Scenes.{Answers, scene_in};
     ghost use Rattle.machine.specs.Completions.{noted};
-    ghost use Rattle.monitor.specs.Watching.{AnswersHistory, HasSeen, SeesNext};
+    ghost use Rattle.monitor.specs.Watching.{HasSeen, SeesStep};
     ghost use Rattle.monitor.specs.Finding.{IsUncrowdedIf};
 
     /// A watch over blocks that have their opening values, and to which nothing has happened.
@@ -46,10 +46,7 @@ impl Watch {
     /// The world is that after the step, and the outcome is the one that the step had. The watch has to see each step:
     /// what a load ought to return is the value of the last store that it has seen, or the opening value.
     pub fn see(&mut self, world: &World, step: Step, outcome: Outcome) -> Option<Violation>
-        ensures noted { self.new ≡ noted self.old (block_of step) outcome }
-        ensures violation { Answers (scene_in world.now.state step outcome (slice_get self.old (block_of step))) result }
-        ensures history { AnswersHistory world.now self.old step outcome result }
-        ensures seen { SeesNext world.now self.old step outcome self.new }
+        ensures { SeesStep world.now self.old step outcome result self.new }
     {
         let block = step.block();
         let due = self.due(block);
@@ -62,10 +59,7 @@ impl Watch {
     #[inline(always)]
     pub fn see_made(&mut self, world: &World, step: Step, made: &Made) -> Option<Violation>
         requires { WasTold world.now.tables step made.now world.now.state }
-        ensures noted { self.new ≡ noted self.old (block_of step) made.now.outcome }
-        ensures violation { Answers (scene_in world.now.state step made.now.outcome (slice_get self.old (block_of step))) result }
-        ensures history { AnswersHistory world.now self.old step made.now.outcome result }
-        ensures seen { SeesNext world.now self.old step made.now.outcome self.new }
+        ensures { SeesStep world.now self.old step made.now.outcome result self.new }
     {
         if is_suspect(made) {
             return self.see_any(world, step, made.outcome);
@@ -76,10 +70,7 @@ impl Watch {
     /// The same as [`see`](Watch::see). It is the call, taken apart (docs/PERFORMANCE.md, "Seldom calls").
     #[inline(always)]
     fn see_any(&mut self, world: &World, step: Step, outcome: Outcome) -> Option<Violation>
-        ensures noted { self.new ≡ noted self.old (block_of step) outcome }
-        ensures violation { Answers (scene_in world.now.state step outcome (slice_get self.old (block_of step))) result }
-        ensures history { AnswersHistory world.now self.old step outcome result }
-        ensures seen { SeesNext world.now self.old step outcome self.new }
+        ensures { SeesStep world.now self.old step outcome result self.new }
     {
         let seen = self.see(world, step, outcome)?;
         Some(seen)

@@ -1,10 +1,10 @@
-use Rattle.std.proofs.Common.{◌≡◌, ℕ, ◌+◌, List, [], ◌∷◌, ◌++◌, length, refl, ◌∙◌, arith}
-use Rattle.std.proofs.lemmas.List.{length-set}
+use Rattle.std.proofs.Common.{◌≡◌, ℕ, ◌+◌, ◌≤◌, List, [], ◌∷◌, ◌++◌, length, take, false, ap, refl, sym, ◌∙◌, arith}
+use Rattle.std.proofs.lemmas.List.{length-append, length-set, take-append-le}
 use Rattle.network.specs.declared.message.Message.{Message}
 use Rattle.network.specs.declared.message.Message.TheVariants as message
-use Rattle.network.specs.Marks.{Marks, mark_added, all_marks_added}
+use Rattle.network.specs.Marks.{Marks, all_marks_added, mark_added, request_mark_added, forward_mark_added, response_mark_added}
 use Rattle.network.specs.Traffic.{Traffic, sent, all_sent}
-use Rattle.network.specs.Room.{Room, HasRoomFor, UsesRoomFor, requests_in, forwards_in, responses_in}
+use Rattle.network.specs.Room.{Room, Wiring, HasRoomFor, Sends, UsesRoomFor, requests_in, forwards_in, responses_in}
 
 -- messages are sent one list after another
 pub all_sent-append : (ms ns : List Message) (w : Traffic) → all_sent (ms ++ ns) w ≡ all_sent ns (all_sent ms w)
@@ -57,6 +57,22 @@ used-append ms ns old mid new first then = record {
   responses = omega (arith, first.responses, then.responses, responses_in-append ms ns);
 }
 
+-- where nothing is sent, nothing has changed
+pub sends-nothing : (wires : Wiring) → Sends [] wires wires
+sends-nothing wires = record {
+  traffic = refl;
+  marks = refl;
+  room = record { requests = omega arith; links = λ cache. omega arith; responses = omega arith };
+}
+
+-- what is sent one list after another is sent
+pub sends-append : (ms ns : List Message) (old mid new : Wiring) → Sends ms old mid → Sends ns mid new → Sends (ms ++ ns) old new
+sends-append ms ns old mid new first then = record {
+  traffic = then.traffic ∙ ap (all_sent ns) first.traffic ∙ sym (all_sent-append ms ns old.traffic);
+  marks = then.marks ∙ ap (all_marks_added ns) first.marks ∙ sym (all_marks_added-append ms ns old.marks);
+  room = used-append ms ns old.room mid.room new.room first.room then.room;
+}
+
 -- a message sent adds no link
 pub links-sent : (m : Message) (w : Traffic) → length (sent m w).links ≡ length w.links
 links-sent (message.Request r) w = refl
@@ -66,3 +82,14 @@ links-sent (message.Response r) w = refl
 pub links-all_sent : (ms : List Message) (w : Traffic) → length (all_sent ms w).links ≡ length w.links
 links-all_sent [] w = refl
 links-all_sent (m ∷ ms) w = links-all_sent ms (sent m w) ∙ links-sent m w
+
+pub links-sends : (ms : List Message) (old new : Wiring) → Sends ms old new → length new.traffic.links ≡ length old.traffic.links
+links-sends ms old new sent = ap (λ (w : Traffic). length w.links) sent.traffic ∙ links-all_sent ms old.traffic
+
+-- the marks of the requests that were there stay in front
+pub requests-stay : (ms : List Message) (m : Marks) (n : ℕ) → n ≤ length m.requests → take n (all_marks_added ms m).requests ≡ take n m.requests
+requests-stay [] m n few = refl
+requests-stay (message.Request r ∷ ms) m n few =
+    requests-stay ms (request_mark_added m) n (omega (arith, length-append m.requests (false ∷ []))) ∙ take-append-le n m.requests (false ∷ []) few
+requests-stay (message.Forward to f ∷ ms) m n few = requests-stay ms (forward_mark_added to.0 m) n few
+requests-stay (message.Response r ∷ ms) m n few = requests-stay ms (response_mark_added m) n few

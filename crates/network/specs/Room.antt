@@ -1,10 +1,11 @@
-use Rattle.std.specs.Prelude.{◌≡◌, ℕ, ◌+◌, ◌<◌, ◌≤◌, List, [], ◌∷◌, slice_index, ◌==◌, Bool, true, false, IsOk, OnOk}
+use Rattle.std.specs.Prelude.{◌≡◌, ℕ, ◌+◌, ◌<◌, ◌≤◌, List, [], ◌∷◌, slice_index, ◌==◌, Bool, true, false, Option}
+use Rattle.std.specs.Prelude.{IsOk, IfErr, IfNone, OnErr, OnOk, OnSome}
 use Rattle.std.specs.declared.result.Result.{Result}
 use Rattle.base.specs.declared.ids.CacheId.{CacheId}
 use Rattle.network.specs.declared.message.Message.{Message}
 use Rattle.network.specs.declared.message.Message.TheVariants as message
-use Rattle.network.specs.Marks.{Marks}
-use Rattle.network.specs.Traffic.{Traffic}
+use Rattle.network.specs.Marks.{Marks, all_marks_added}
+use Rattle.network.specs.Traffic.{Traffic, all_sent}
 
 -- how many more messages each wire takes without asking for memory
 pub record Room : Type 0 where
@@ -61,6 +62,30 @@ pub record UsesRoomFor (messages : List Message) (old new : Room) : Type 0 where
   pub requests : old.requests ≤ new.requests + requests_in messages
   pub links : (cache : ℕ) → slice_index old.links cache ≤ slice_index new.links cache + forwards_in cache messages
   pub responses : old.responses ≤ new.responses + responses_in messages
+
+-- these messages were sent in order, each without a mark, and no more room has gone than they take
+pub record Sends (messages : List Message) (old new : Wiring) : Type 0 where
+  pub traffic : new.traffic ≡ all_sent messages old.traffic
+  pub marks : new.marks ≡ all_marks_added messages old.marks
+  pub room : UsesRoomFor messages old.room new.room
+
+-- a message was sent, or it came back and no list has changed; where there was room it was sent
+pub record SendsOrReturns {T M : Type 0} (message : Message) (bare : M) (result : Result T M) (old new : Wiring) : Type 0 where
+  pub ok : OnOk result (new.traffic ≡ all_sent (message ∷ []) old.traffic)
+  pub ok_marks : OnOk result (new.marks ≡ all_marks_added (message ∷ []) old.marks)
+  pub err : OnErr result (new.traffic ≡ old.traffic)
+  pub err_marks : OnErr result (new.marks ≡ old.marks)
+  pub back : IfErr result (λ returned. returned ≡ bare)
+  pub succeeds : HasRoomFor (message ∷ []) old.room → IsOk result
+  pub room : UsesRoomFor (message ∷ []) old.room new.room
+
+-- a message was taken out with its mark, and this is left; where none was there no list has changed. No room has gone
+pub record TakesMessage {M : Type 0} (left : Traffic → Traffic) (left_marks : Marks → Marks) (result : Option M) (old new : Wiring) : Type 0 where
+  pub some : OnSome result (new.traffic ≡ left old.traffic)
+  pub some_marks : OnSome result (new.marks ≡ left_marks old.marks)
+  pub none : IfNone result (new.traffic ≡ old.traffic)
+  pub none_marks : IfNone result (new.marks ≡ old.marks)
+  pub room : UsesRoomFor [] old.room new.room
 
 -- what was asked for has room now, unless it was refused, which it isn't where there was room before; nothing else has changed
 pub record MakesRoom {T E : Type 0} (asked : Room → Type 0) (result : Result T E) (old new : Wiring) : Type 0 where

@@ -1,9 +1,9 @@
-ghost use Rattle.std.specs.Prelude.{◌≡◌, ◌+◌, ◌*◌, ◌-◌, ◌^◌, ◌<◌, ◌≤◌, ◌∷◌, ◌++◌, ◌↔◌, [], IsOk, IsSome, IfOk, OnOk, OnErr, IfErr, IfNone, IfSome};
+ghost use Rattle.std.specs.Prelude.{◌≡◌, ◌+◌, ◌*◌, ◌-◌, ◌^◌, ◌<◌, ◌≤◌, ◌↔◌, [], IsSome, IfOk, OnOk, IfNone, IfSome};
 ghost use Rattle.std.specs.Prelude.{false, length, map, remove, replicate};
-ghost use Rattle.std.specs.Prelude.{slice_get, slice_index, slice_index_or, slice_set};
+ghost use Rattle.std.specs.Prelude.{slice_get, slice_index_or, slice_set};
 ghost use Rattle.std.specs.List.{sum_by};
 ghost use Rattle.network.specs.Traffic.{all_nil};
-ghost use Rattle.network.specs.inner.Links.{IsLinkRemarked, KeepsLinks, KeepsRoom, UsesOneLink, free_of, messages_in, on_link, room_on, unmarked_one, waiting_of};
+ghost use Rattle.network.specs.inner.Links.{IsLinkRemarked, KeepsRoom, MakesRoomOnLink, SendsOnLink, free_of, linked_of, messages_in, on_link, waiting_of};
 ghost use Rattle.rows.specs.Flags.{IsFirstFrom, IsKth, NoneFrom, is_set, set_count};
 
 use crate::marker::Marker;
@@ -29,11 +29,11 @@ pub struct Links {
 
 impl Model for Links {
     ghost use Rattle.std.specs.Prelude.{map};
-    ghost use Rattle.network.specs.inner.Links.{AreLinked, Linked, on_link, room_on};
+    ghost use Rattle.network.specs.inner.Links.{AreLinked, Linked, linked_of, on_link};
 
     ghost Value = { Linked };
 
-    ghost view = { λ l. record { sent = map on_link l.links.items; room = map room_on l.links.items } };
+    ghost view = { λ l. linked_of l.links.items };
 
     ghost invariant = { λ l. AreLinked (map on_link l.links.items) l.waiting l.free l.count };
 }
@@ -93,7 +93,7 @@ impl Links {
         ensures count { result ≡ sum_by length self.now.sent }
         ensures few { result ≤ (2 ^ 32 - 1) * (2 ^ 32 - 1) }
     {
-        // Called for its contract: a `u32` counts the links.
+        // A `u32` counts the links.
         let _links = self.links.places();
         self.count
     }
@@ -136,17 +136,6 @@ impl Links {
         }
     }
 
-    /// How many messages there are on a link.
-    #[inline(always)]
-    pub fn count(&self, cache: CacheId) -> u32
-        ensures { result ≡ length (slice_index_or self.now.sent cache.0 []) }
-    {
-        match self.links.get(cache.0) {
-            Some(link) => link.len(),
-            None => 0,
-        }
-    }
-
     #[inline(always)]
     pub fn get(&self, cache: CacheId, index: u64) -> Option<Forward>
         ensures { result ≡ slice_get (messages_in (slice_index_or self.now.sent cache.0 [])) index }
@@ -185,14 +174,9 @@ impl Links {
     #[inline(always)]
     pub fn send(&mut self, cache: CacheId, forward: Forward) -> Result<(), Forward>
         requires { cache.0 < length self.old.sent }
-        ensures ok { OnOk result (self.new.sent ≡ slice_set self.old.sent cache.0
-            (slice_index_or self.old.sent cache.0 [] ++ unmarked_one forward ∷ [])) }
-        ensures err { OnErr result (self.new.sent ≡ self.old.sent) }
-        ensures back { IfErr result (λ back. back ≡ forward) }
-        ensures succeeds { 0 < slice_index self.old.room cache.0 → IsOk result }
-        ensures room { UsesOneLink cache.0 self.old.room self.new.room }
+        ensures { SendsOnLink cache.0 forward result self.old self.new }
     {
-        // Called for its contract: a `u32` counts the links.
+        // A `u32` counts the links.
         let _links = self.links.places();
         send_on(self.alloc, &mut self.links, cache, forward)?;
         self.count += 1;
@@ -221,9 +205,7 @@ impl Links {
     #[inline(always)]
     pub fn reserve(&mut self, cache: CacheId, count: usize) -> Result<(), NoMemory>
         requires { cache.0 < length self.old.sent }
-        ensures kept { KeepsLinks self.old self.new }
-        ensures ok { OnOk result (count ≤ slice_index self.new.room cache.0) }
-        ensures succeeds { count ≤ slice_index self.old.room cache.0 → IsOk result }
+        ensures { MakesRoomOnLink cache.0 count result self.old self.new }
     {
         if count == 0 {
             return Ok(());
@@ -248,17 +230,12 @@ fn send_on(
     forward: Forward,
 ) -> Result<(), Forward>
     requires { cache.0 < length links.old.items }
-    ensures ok { OnOk result (map on_link links.new.items ≡ slice_set (map on_link links.old.items) cache.0
-        (slice_index_or (map on_link links.old.items) cache.0 [] ++ unmarked_one forward ∷ [])) }
-    ensures err { OnErr result (map on_link links.new.items ≡ map on_link links.old.items) }
-    ensures back { IfErr result (λ back. back ≡ forward) }
-    ensures succeeds { 0 < slice_index (map room_on links.old.items) cache.0 → IsOk result }
-    ensures room { UsesOneLink cache.0 (map room_on links.old.items) (map room_on links.new.items) }
+    ensures sent { SendsOnLink cache.0 forward result (linked_of links.old.items) (linked_of links.new.items) }
     ensures short { OnOk result (length (slice_index_or (map on_link links.new.items) cache.0 []) < 2 ^ 32) }
 {
     if let Some(link) = links.get_mut(cache.0) {
         link.send(forward)?;
-        // Called for its contract: a `u32` counts the messages.
+        // A `u32` counts the messages.
         let _count = link.len();
         return Ok(());
     }

@@ -1,8 +1,8 @@
-ghost use Rattle.std.specs.Prelude.{◌≡◌, ◌+◌, ◌<◌, ◌≤◌, ◌^◌, ◌∷◌, ◌++◌, [], IsOk, OnOk, OnErr, IfOk, IfErr, false};
+ghost use Rattle.std.specs.Prelude.{◌≡◌, ◌+◌, ◌<◌, ◌≤◌, ◌^◌, [], IsOk, OnOk, IfOk, false};
 ghost use Rattle.std.specs.Prelude.{length, not, remove, slice_get, slice_index_or, true, vec_len};
 ghost use Rattle.std.specs.Vec.{vec_capacity};
 ghost use Rattle.network.specs.Marks.{is_stopped, unmarked, unmarked_count};
-ghost use Rattle.network.specs.inner.Links.{IsRemarked, KeepsMessages, held_count, marks_in, messages_in, one, remarked, remarked_from, unmarked_one};
+ghost use Rattle.network.specs.inner.Links.{IsRemarked, KeepsMessages, SendsOn, held_count, marks_in, messages_in, one, remarked, remarked_from};
 
 use crate::marker::Marker;
 use base::NoMemory;
@@ -141,11 +141,7 @@ impl<M: Copy> Wire<M> {
 
     /// Sends a message, or gives it back where there is no memory for it or the wire is full.
     pub fn send(&mut self, message: M) -> Result<(), M>
-        ensures ok { OnOk result (self.new.sent ≡ self.old.sent ++ unmarked_one message ∷ []) }
-        ensures err { OnErr result (self.new.sent ≡ self.old.sent) }
-        ensures back { IfErr result (λ back. back ≡ message) }
-        ensures succeeds { 0 < self.old.room → IsOk result }
-        ensures room { self.old.room ≤ self.new.room + 1 }
+        ensures { SendsOn message result self.old self.new }
     {
         if self.marked.len() >= MOST {
             return Err(message);

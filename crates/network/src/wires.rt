@@ -1,14 +1,14 @@
 mod marking;
 mod space;
 
-ghost use Rattle.std.specs.Prelude.{◌≡◌, ◌+◌, ◌*◌, ◌-◌, ◌^◌, ◌<◌, ◌≤◌, ◌↔◌, ◌∷◌, [], IsOk, IfOk, OnOk, OnErr, IfErr, IfNone, IfSome, OnSome};
+ghost use Rattle.std.specs.Prelude.{◌≡◌, ◌+◌, ◌*◌, ◌-◌, ◌^◌, ◌<◌, ◌≤◌, ◌↔◌, ◌∷◌, [], IfOk, IfNone, IfSome};
 ghost use Rattle.std.specs.Prelude.{ℕ, length, slice_get, true};
-ghost use Rattle.network.specs.Marks.{no_marks, link_marks, mark_added, request_mark_added, forward_mark_added, response_mark_added};
+ghost use Rattle.network.specs.Marks.{no_marks, link_marks};
 ghost use Rattle.network.specs.Marks.{request_mark_taken, head_mark_taken, response_mark_taken};
 ghost use Rattle.network.specs.Traffic.{IsNextWaiting, NoneWaits};
-ghost use Rattle.network.specs.Traffic.{quiet, is_quiet, link, message_count, sent, request_sent, forward_sent, response_sent, request_taken};
+ghost use Rattle.network.specs.Traffic.{quiet, is_quiet, link, message_count, request_taken};
 ghost use Rattle.network.specs.Traffic.{head_taken, response_taken};
-ghost use Rattle.network.specs.Room.{HasRoomFor, UsesRoomFor, HasLinkFor};
+ghost use Rattle.network.specs.Room.{HasLinkFor, HasRoomFor, Sends, SendsOrReturns, TakesMessage};
 ghost use Rattle.network.specs.declared.message.Message.TheVariants as message;
 
 use crate::links::Links;
@@ -35,7 +35,7 @@ pub struct Wires {
 
 impl Drop for Wires {
     fn drop(self) {
-        // Whoever drops one has a call to prove, and not the drops of all its parts.
+        // One call drops all its parts.
         let Wires {
             requests: _,
             links: _,
@@ -132,20 +132,6 @@ impl Wires {
         self.requests.len()
     }
 
-    /// How many messages are on the link to a cache.
-    pub fn forward_count(&self, cache: CacheId) -> u32
-        ensures { result ≡ length (link self.now.traffic cache.0) }
-    {
-        self.links.count(cache)
-    }
-
-    /// How many responses are on their way.
-    pub fn response_count(&self) -> u32
-        ensures { result ≡ length self.now.traffic.responses }
-    {
-        self.responses.len()
-    }
-
     /// How many messages are on their way.
     pub fn message_count(&self) -> u64
         ensures { result ≡ message_count self.now.traffic }
@@ -201,13 +187,7 @@ impl Wires {
     /// Sends a request, or gives it back where there is no memory for it.
     #[inline(always)]
     pub fn send_request(&mut self, request: Request) -> Result<(), Request>
-        ensures ok { OnOk result (self.new.traffic ≡ request_sent request self.old.traffic) }
-        ensures ok_marks { OnOk result (self.new.marks ≡ request_mark_added self.old.marks) }
-        ensures err { OnErr result (self.new.traffic ≡ self.old.traffic) }
-        ensures err_marks { OnErr result (self.new.marks ≡ self.old.marks) }
-        ensures back { IfErr result (λ back. back ≡ request) }
-        ensures succeeds { HasRoomFor (message.Request request ∷ []) self.old.room → IsOk result }
-        ensures room { UsesRoomFor (message.Request request ∷ []) self.old.room self.new.room }
+        ensures { SendsOrReturns (message.Request request) request result self.old self.new }
     {
         self.requests.send(request)
     }
@@ -216,13 +196,7 @@ impl Wires {
     #[inline(always)]
     pub fn send_forward(&mut self, cache: CacheId, forward: Forward) -> Result<(), Forward>
         requires { cache.0 < length self.old.traffic.links }
-        ensures ok { OnOk result (self.new.traffic ≡ forward_sent cache.0 forward self.old.traffic) }
-        ensures ok_marks { OnOk result (self.new.marks ≡ forward_mark_added cache.0 self.old.marks) }
-        ensures err { OnErr result (self.new.traffic ≡ self.old.traffic) }
-        ensures err_marks { OnErr result (self.new.marks ≡ self.old.marks) }
-        ensures back { IfErr result (λ back. back ≡ forward) }
-        ensures succeeds { HasRoomFor (message.Forward cache forward ∷ []) self.old.room → IsOk result }
-        ensures room { UsesRoomFor (message.Forward cache forward ∷ []) self.old.room self.new.room }
+        ensures { SendsOrReturns (message.Forward cache forward) forward result self.old self.new }
     {
         self.links.send(cache, forward)
     }
@@ -230,13 +204,7 @@ impl Wires {
     /// Sends a response, or gives it back where there is no memory for it.
     #[inline(always)]
     pub fn send_response(&mut self, response: Response) -> Result<(), Response>
-        ensures ok { OnOk result (self.new.traffic ≡ response_sent response self.old.traffic) }
-        ensures ok_marks { OnOk result (self.new.marks ≡ response_mark_added self.old.marks) }
-        ensures err { OnErr result (self.new.traffic ≡ self.old.traffic) }
-        ensures err_marks { OnErr result (self.new.marks ≡ self.old.marks) }
-        ensures back { IfErr result (λ back. back ≡ response) }
-        ensures succeeds { HasRoomFor (message.Response response ∷ []) self.old.room → IsOk result }
-        ensures room { UsesRoomFor (message.Response response ∷ []) self.old.room self.new.room }
+        ensures { SendsOrReturns (message.Response response) response result self.old self.new }
     {
         self.responses.send(response)
     }
@@ -245,11 +213,7 @@ impl Wires {
     #[inline(always)]
     pub fn take_request(&mut self, index: u64) -> Option<Request>
         ensures taken { result ≡ slice_get self.old.traffic.requests index }
-        ensures some { OnSome result (self.new.traffic ≡ request_taken index self.old.traffic) }
-        ensures some_marks { OnSome result (self.new.marks ≡ request_mark_taken index self.old.marks) }
-        ensures none { IfNone result (self.new.traffic ≡ self.old.traffic) }
-        ensures none_marks { IfNone result (self.new.marks ≡ self.old.marks) }
-        ensures room { UsesRoomFor [] self.old.room self.new.room }
+        ensures left { TakesMessage (request_taken index) (request_mark_taken index) result self.old self.new }
     {
         self.requests.take(index)
     }
@@ -258,11 +222,7 @@ impl Wires {
     #[inline(always)]
     pub fn take_head(&mut self, cache: CacheId) -> Option<Forward>
         ensures taken { result ≡ slice_get (link self.old.traffic cache.0) 0 }
-        ensures some { OnSome result (self.new.traffic ≡ head_taken cache.0 self.old.traffic) }
-        ensures some_marks { OnSome result (self.new.marks ≡ head_mark_taken cache.0 self.old.marks) }
-        ensures none { IfNone result (self.new.traffic ≡ self.old.traffic) }
-        ensures none_marks { IfNone result (self.new.marks ≡ self.old.marks) }
-        ensures room { UsesRoomFor [] self.old.room self.new.room }
+        ensures left { TakesMessage (head_taken cache.0) (head_mark_taken cache.0) result self.old self.new }
     {
         self.links.take_head(cache)
     }
@@ -271,11 +231,7 @@ impl Wires {
     #[inline(always)]
     pub fn take_response(&mut self, index: u64) -> Option<Response>
         ensures taken { result ≡ slice_get self.old.traffic.responses index }
-        ensures some { OnSome result (self.new.traffic ≡ response_taken index self.old.traffic) }
-        ensures some_marks { OnSome result (self.new.marks ≡ response_mark_taken index self.old.marks) }
-        ensures none { IfNone result (self.new.traffic ≡ self.old.traffic) }
-        ensures none_marks { IfNone result (self.new.marks ≡ self.old.marks) }
-        ensures room { UsesRoomFor [] self.old.room self.new.room }
+        ensures left { TakesMessage (response_taken index) (response_mark_taken index) result self.old self.new }
     {
         self.responses.take(index)
     }
@@ -285,9 +241,7 @@ impl Wires {
     pub fn place(&mut self, message: Message)
         requires link { HasLinkFor message (length self.old.traffic.links) }
         requires room { HasRoomFor (message ∷ []) self.old.room }
-        ensures traffic { self.new.traffic ≡ sent message self.old.traffic }
-        ensures marks { self.new.marks ≡ mark_added message self.old.marks }
-        ensures room { UsesRoomFor (message ∷ []) self.old.room self.new.room }
+        ensures { Sends (message ∷ []) self.old self.new }
     {
         match message {
             Message::Request(request) => {

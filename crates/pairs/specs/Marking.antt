@@ -10,7 +10,15 @@ pub record IsMarked (p : Pair) : Type 0 where
   pub first : length p.first_names ≡ length p.first.link
   pub second : length p.second_names ≡ length p.second.link
 
--- a pair that is seen is few and marked again
+-- a pair from which steps can be followed: it has no more of each message than is followed, and marks for its links
+abbrev pub CanBeFollowed : Pair → Type 0
+CanBeFollowed p = (is_few p ≡ true) × IsMarked p
+
+-- a pair that is seen can be followed again
 abbrev pub IsFollowed : Sight → Type 0
-IsFollowed (Seen concerned p) = (is_few p ≡ true) × IsMarked p
+IsFollowed (Seen concerned p) = CanBeFollowed p
 IsFollowed other = ⊤
+
+-- what is seen is this, and can be followed again
+abbrev pub IsFollowedAs : Sight → Sight → Type 0
+IsFollowedAs told sight = (sight ≡ told) × IsFollowed sight

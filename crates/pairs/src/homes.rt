@@ -1,6 +1,5 @@
 ghost use Rattle.std.specs.Prelude.{◌≡◌, IfSome, true};
-ghost use Rattle.pairs.specs.Pairs.{is_few};
-ghost use Rattle.pairs.specs.Marking.{IsFollowed, IsMarked};
+ghost use Rattle.pairs.specs.Marking.{CanBeFollowed, IsFollowedAs, IsMarked};
 ghost use Rattle.pairs.specs.Sights.{any_names_owner, at_home, by_home, concerned_by};
 ghost use Rattle.pairs.specs.Sights.{home_acted, home_acts, names_owner, owner_in};
 ghost use Rattle.pairs.specs.inner.Following.{few_scene};
@@ -17,8 +16,7 @@ use tables::Tables;
 /// Does an action of the home for a request of the first cache, or for Data if nobody asked. Either brings a fresh
 /// value, another one, or none.
 fn act(asked: bool, value: Option<bool>, action: DirectoryAction, scene: &mut Scene)
-    requires few { is_few scene.old.pair ≡ true }
-    requires marked { IsMarked scene.old.pair }
+    requires { CanBeFollowed scene.old.pair }
     ensures { scene.new ≡ home_acted asked value action scene.old }
 {
     let fresh_memory = scene.pair.shared.fresh_memory;
@@ -57,8 +55,7 @@ fn acted(
     actions: &[DirectoryAction],
     scene: &Scene,
 ) -> Option<Scene>
-    requires few { is_few scene.now.pair ≡ true }
-    requires marked { IsMarked scene.now.pair }
+    requires { CanBeFollowed scene.now.pair }
     ensures scene { result ≡ few_scene (home_acts asked value actions.now scene.now) }
     ensures marked { IfSome result (λ s. IsMarked s.pair) }
 {
@@ -112,10 +109,8 @@ fn see_act(
     actions: &[DirectoryAction],
     scene: &Scene,
 ) -> Sight
-    requires few { is_few scene.now.pair ≡ true }
-    requires marked { IsMarked scene.now.pair }
-    ensures seen { result ≡ by_home asked value (CellEntry.Act next actions.now) scene.now }
-    ensures followed { IsFollowed result }
+    requires { CanBeFollowed scene.now.pair }
+    ensures { IsFollowedAs (by_home asked value (CellEntry.Act next actions.now) scene.now) result }
 {
     let Some(after) = acted(asked, value, actions, scene) else {
         return Sight::Lost;
@@ -130,10 +125,8 @@ fn see_act(
 
 /// What an entry of the directory's table makes of a scene.
 fn see_entry(asked: bool, value: Option<bool>, entry: &DirectoryEntry, scene: &Scene) -> Sight
-    requires few { is_few scene.now.pair ≡ true }
-    requires marked { IsMarked scene.now.pair }
-    ensures seen { result ≡ by_home asked value entry.now scene.now }
-    ensures followed { IsFollowed result }
+    requires { CanBeFollowed scene.now.pair }
+    ensures { IsFollowedAs (by_home asked value entry.now scene.now) result }
 {
     match entry {
         CellEntry::Stall => Sight::Unmoved,
@@ -164,10 +157,8 @@ pub(crate) fn see_home(
     event: DirectoryEvent,
     pair: &Pair,
 ) -> Sight
-    requires few { is_few pair.now ≡ true }
-    requires marked { IsMarked pair.now }
-    ensures seen { result ≡ at_home tables.now third_shares asked value event pair.now }
-    ensures followed { IsFollowed result }
+    requires { CanBeFollowed pair.now }
+    ensures { IsFollowedAs (at_home tables.now third_shares asked value event pair.now) result }
 {
     if !pair.thirds_fit(third_shares) {
         return Sight::Unmoved;

@@ -1,6 +1,6 @@
 ghost use Rattle.std.specs.Prelude.{◌≡◌, IfSome, Some, true};
 ghost use Rattle.pairs.specs.Pairs.{is_few};
-ghost use Rattle.pairs.specs.Marking.{IsFollowed, IsMarked};
+ghost use Rattle.pairs.specs.Marking.{CanBeFollowed, IsFollowedAs, IsMarked};
 ghost use Rattle.pairs.specs.Sights.{answer, answered, at_line, by_line, inv_acks, line_acted, line_acts, line_settled};
 ghost use Rattle.pairs.specs.inner.Following.{few_pair};
 
@@ -36,8 +36,7 @@ fn act(to: Party, fresh: bool, action: CacheAction, pair: &mut Pair)
 /// What the actions of the first cache's line make of a pair. `None` comes exactly where it isn't few in the end: as
 /// there is never less of a kind than before, it is given up as soon as there is too much.
 fn acted(to: Party, fresh: bool, actions: &[CacheAction], pair: &Pair) -> Option<Pair>
-    requires few { is_few pair.now ≡ true }
-    requires marked { IsMarked pair.now }
+    requires { CanBeFollowed pair.now }
     ensures pair { result ≡ few_pair (line_acts to fresh actions.now pair.now) }
     ensures marked { IfSome result IsMarked }
 {
@@ -81,8 +80,7 @@ fn answer(event: CacheEvent, actions: &[CacheAction]) -> Lag
 
 /// What an answer makes of the requestor, if that can be followed. It is guessed whether acks are still owed to it.
 fn answered(guess: bool, to: Party, by: Lag, pair: &Pair) -> Option<Pair>
-    requires few { is_few pair.now ≡ true }
-    requires marked { IsMarked pair.now }
+    requires { CanBeFollowed pair.now }
     ensures pair { result ≡ answered guess to by pair.now }
     ensures few { IfSome result (λ q. is_few q ≡ true) }
     ensures marked { IfSome result IsMarked }
@@ -109,10 +107,8 @@ fn see_answered(
     actions: &[CacheAction],
     pair: &Pair,
 ) -> Sight
-    requires few { is_few pair.now ≡ true }
-    requires marked { IsMarked pair.now }
-    ensures seen { result ≡ line_settled rule to concerned next actions.now (Some pair.now) }
-    ensures followed { IsFollowed result }
+    requires { CanBeFollowed pair.now }
+    ensures { IsFollowedAs (line_settled rule to concerned next actions.now (Some pair.now)) result }
 {
     // What a load returns is seen first: no action changes the line's value.
     if returns_old(rule, next, &pair.first) {
@@ -136,10 +132,8 @@ fn see_entry(
     entry: &CacheEntry,
     pair: &Pair,
 ) -> Sight
-    requires few { is_few pair.now ≡ true }
-    requires marked { IsMarked pair.now }
-    ensures seen { result ≡ by_line rule guess to concerned event entry.now pair.now }
-    ensures followed { IsFollowed result }
+    requires { CanBeFollowed pair.now }
+    ensures { IsFollowedAs (by_line rule guess to concerned event entry.now pair.now) result }
 {
     match entry {
         CellEntry::Stall => Sight::Unmoved,
@@ -164,10 +158,8 @@ pub(crate) fn see_line(
     event: CacheEvent,
     pair: &Pair,
 ) -> Sight
-    requires few { is_few pair.now ≡ true }
-    requires marked { IsMarked pair.now }
-    ensures seen { result ≡ at_line tables.now rule guess to concerned event pair.now }
-    ensures followed { IsFollowed result }
+    requires { CanBeFollowed pair.now }
+    ensures { IsFollowedAs (at_line tables.now rule guess to concerned event pair.now) result }
 {
     let entry = tables.cache.entry(pair.first.state, event);
     see_entry(rule, guess, to, concerned, event, &entry, pair)

@@ -53,7 +53,7 @@ impl Shared {
 
 impl Pair {
     ghost use Rattle.std.specs.Prelude.{◌≡◌, ◌↔◌, IsTrue, ◌<◌, length, true};
-    ghost use Rattle.pairs.specs.Marking.{IsMarked};
+    ghost use Rattle.pairs.specs.Marking.{CanBeFollowed, IsMarked};
     ghost use Rattle.pairs.specs.Sights.{first_linked, owner_linked, second_linked};
     ghost use Rattle.pairs.specs.Pairs.{fits, is_few, opened_pair, swapped, thirds_fit};
 
@@ -143,8 +143,7 @@ impl Pair {
 
     /// A forward of this kind goes onto the owner's link, if there is an owner.
     pub(crate) fn link_owner(&mut self, owner: Party, kind: ForwardKind)
-        requires few { is_few self.old ≡ true }
-        requires marked { IsMarked self.old }
+        requires { CanBeFollowed self.old }
         ensures { self.new ≡ owner_linked owner kind self.old }
     {
         match owner {

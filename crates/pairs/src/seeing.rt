@@ -1,7 +1,6 @@
 ghost use Rattle.std.specs.Prelude.{◌≡◌, true};
 ghost use Rattle.control.specs.LineEvents.{forward_event};
-ghost use Rattle.pairs.specs.Pairs.{is_few};
-ghost use Rattle.pairs.specs.Marking.{IsFollowed, IsMarked};
+ghost use Rattle.pairs.specs.Marking.{CanBeFollowed, IsFollowedAs};
 ghost use Rattle.pairs.specs.Sights.{ack_fits, at_line, counts_fit, besides, home_data_seen, requestor, sight, unnamed};
 
 use crate::homes::see_home;
@@ -17,10 +16,8 @@ use tables::Tables;
 
 /// What is seen where an event that names no other cache comes to the first's line, from a pair that it was taken from.
 fn see_event(tables: &Tables, rule: Rule, guess: bool, event: CacheEvent, pair: &Pair) -> Sight
-    requires few { is_few pair.now ≡ true }
-    requires marked { IsMarked pair.now }
-    ensures seen { result ≡ at_line tables.now rule guess Party.Nobody Party.Nobody event pair.now }
-    ensures followed { IsFollowed result }
+    requires { CanBeFollowed pair.now }
+    ensures { IsFollowedAs (at_line tables.now rule guess Party.Nobody Party.Nobody event pair.now) result }
 {
     see_line(
         tables,
@@ -80,10 +77,8 @@ fn unname(to: Party, kind: ForwardKind, pair: &mut Pair)
 
 /// What is seen where the head of the first's link comes to its line.
 fn see_head(tables: &Tables, guess: bool, pair: &Pair) -> Sight
-    requires few { is_few pair.now ≡ true }
-    requires marked { IsMarked pair.now }
-    ensures seen { result ≡ sight tables.now Rule.TakesHead guess pair.now }
-    ensures followed { IsFollowed result }
+    requires { CanBeFollowed pair.now }
+    ensures { IsFollowedAs (sight tables.now Rule.TakesHead guess pair.now) result }
 {
     match (pair.first.link.head(), pair.first_names.head()) {
         (Some(place), Some(mark)) => {
@@ -109,10 +104,8 @@ fn see_head(tables: &Tables, guess: bool, pair: &Pair) -> Sight
 
 /// What is seen where a GetS of the first comes to the home.
 fn see_get_s(tables: &Tables, third_shares: bool, pair: &Pair) -> Sight
-    requires few { is_few pair.now ≡ true }
-    requires marked { IsMarked pair.now }
-    ensures seen { result ≡ sight tables.now Rule.SentGetS third_shares pair.now }
-    ensures followed { IsFollowed result }
+    requires { CanBeFollowed pair.now }
+    ensures { IsFollowedAs (sight tables.now Rule.SentGetS third_shares pair.now) result }
 {
     if pair.first.gets == 0 {
         return Sight::Unmoved;
@@ -132,10 +125,8 @@ fn see_get_s(tables: &Tables, third_shares: bool, pair: &Pair) -> Sight
 
 /// What is seen where a GetM of the first comes to the home.
 fn see_get_m(tables: &Tables, third_shares: bool, pair: &Pair) -> Sight
-    requires few { is_few pair.now ≡ true }
-    requires marked { IsMarked pair.now }
-    ensures seen { result ≡ sight tables.now Rule.SentGetM third_shares pair.now }
-    ensures followed { IsFollowed result }
+    requires { CanBeFollowed pair.now }
+    ensures { IsFollowedAs (sight tables.now Rule.SentGetM third_shares pair.now) result }
 {
     if pair.first.getm == 0 {
         return Sight::Unmoved;
@@ -155,10 +146,8 @@ fn see_get_m(tables: &Tables, third_shares: bool, pair: &Pair) -> Sight
 
 /// What is seen where a PutS of the first comes to the home.
 fn see_put_s(tables: &Tables, third_shares: bool, pair: &Pair) -> Sight
-    requires few { is_few pair.now ≡ true }
-    requires marked { IsMarked pair.now }
-    ensures seen { result ≡ sight tables.now Rule.SentPutS third_shares pair.now }
-    ensures followed { IsFollowed result }
+    requires { CanBeFollowed pair.now }
+    ensures { IsFollowedAs (sight tables.now Rule.SentPutS third_shares pair.now) result }
 {
     if pair.first.puts == 0 {
         return Sight::Unmoved;
@@ -176,10 +165,8 @@ fn see_put_s(tables: &Tables, third_shares: bool, pair: &Pair) -> Sight
 
 /// What is seen where a PutM of the first comes to the home.
 fn see_put_m(tables: &Tables, third_shares: bool, pair: &Pair) -> Sight
-    requires few { is_few pair.now ≡ true }
-    requires marked { IsMarked pair.now }
-    ensures seen { result ≡ sight tables.now Rule.SentPutM third_shares pair.now }
-    ensures followed { IsFollowed result }
+    requires { CanBeFollowed pair.now }
+    ensures { IsFollowedAs (sight tables.now Rule.SentPutM third_shares pair.now) result }
 {
     if pair.first.putm == 0 {
         return Sight::Unmoved;
@@ -197,10 +184,8 @@ fn see_put_m(tables: &Tables, third_shares: bool, pair: &Pair) -> Sight
 
 /// What is seen where Data from the home come to the first's line.
 fn see_dir_data(tables: &Tables, guess: bool, pair: &Pair) -> Sight
-    requires few { is_few pair.now ≡ true }
-    requires marked { IsMarked pair.now }
-    ensures seen { result ≡ sight tables.now Rule.GetsDirData guess pair.now }
-    ensures followed { IsFollowed result }
+    requires { CanBeFollowed pair.now }
+    ensures { IsFollowedAs (sight tables.now Rule.GetsDirData guess pair.now) result }
 {
     if pair.first.dir_data == 0 {
         return Sight::Unmoved;
@@ -221,10 +206,8 @@ fn see_dir_data(tables: &Tables, guess: bool, pair: &Pair) -> Sight
 
 /// What is seen where Data of another cache come to the first's line.
 fn see_owner_data(tables: &Tables, guess: bool, pair: &Pair) -> Sight
-    requires few { is_few pair.now ≡ true }
-    requires marked { IsMarked pair.now }
-    ensures seen { result ≡ sight tables.now Rule.GetsOwnerData guess pair.now }
-    ensures followed { IsFollowed result }
+    requires { CanBeFollowed pair.now }
+    ensures { IsFollowedAs (sight tables.now Rule.GetsOwnerData guess pair.now) result }
 {
     if pair.first.owner_data == 0 {
         return Sight::Unmoved;
@@ -243,10 +226,8 @@ fn see_owner_data(tables: &Tables, guess: bool, pair: &Pair) -> Sight
 
 /// What is seen where exclusive Data come to the first's line.
 fn see_excl_data(tables: &Tables, guess: bool, pair: &Pair) -> Sight
-    requires few { is_few pair.now ≡ true }
-    requires marked { IsMarked pair.now }
-    ensures seen { result ≡ sight tables.now Rule.GetsExclData guess pair.now }
-    ensures followed { IsFollowed result }
+    requires { CanBeFollowed pair.now }
+    ensures { IsFollowedAs (sight tables.now Rule.GetsExclData guess pair.now) result }
 {
     if pair.first.excl_data == 0 {
         return Sight::Unmoved;
@@ -284,10 +265,8 @@ fn may_get_ack(side: &PairSide, last: bool, owed: bool) -> bool
 
 /// What is seen where an Inv-Ack comes to the first's line, the last one or not, which leaves something owed or not.
 fn see_ack(tables: &Tables, last: bool, owed: bool, guess: bool, pair: &Pair) -> Sight
-    requires few { is_few pair.now ≡ true }
-    requires marked { IsMarked pair.now }
-    ensures seen { result ≡ sight tables.now (Rule.GetsInvAck last owed) guess pair.now }
-    ensures followed { IsFollowed result }
+    requires { CanBeFollowed pair.now }
+    ensures { IsFollowedAs (sight tables.now (Rule.GetsInvAck last owed) guess pair.now) result }
 {
     if !may_get_ack(&pair.first, last, owed) {
         return Sight::Unmoved;
@@ -305,10 +284,8 @@ fn see_ack(tables: &Tables, last: bool, owed: bool, guess: bool, pair: &Pair) ->
 
 /// What is seen where a core asks for a replacement at the first's line.
 fn see_replacement(tables: &Tables, guess: bool, pair: &Pair) -> Sight
-    requires few { is_few pair.now ≡ true }
-    requires marked { IsMarked pair.now }
-    ensures seen { result ≡ sight tables.now Rule.AsksReplacement guess pair.now }
-    ensures followed { IsFollowed result }
+    requires { CanBeFollowed pair.now }
+    ensures { IsFollowedAs (sight tables.now Rule.AsksReplacement guess pair.now) result }
 {
     match pair.first.state {
         CacheState::I => Sight::Unmoved,
@@ -325,10 +302,8 @@ fn see_replacement(tables: &Tables, guess: bool, pair: &Pair) -> Sight
 /// What a step of the first cache by this rule makes of a pair. What that doesn't tell is guessed: of a request whether a third
 /// cache shares, of a head whether acks are still owed to the second.
 pub fn sight(tables: &Tables, rule: Rule, guess: bool, pair: &Pair) -> Sight
-    requires few { is_few pair.now ≡ true }
-    requires marked { IsMarked pair.now }
-    ensures seen { result ≡ sight tables.now rule guess pair.now }
-    ensures followed { IsFollowed result }
+    requires { CanBeFollowed pair.now }
+    ensures { IsFollowedAs (sight tables.now rule guess pair.now) result }
 {
     match rule {
         Rule::AsksLoad => see_event(tables, rule, guess, CacheEvent::Load, pair),
@@ -348,10 +323,8 @@ pub fn sight(tables: &Tables, rule: Rule, guess: bool, pair: &Pair) -> Sight
 
 /// What Data that comes to the home makes of any pair, where a third cache shares or not.
 pub fn home_data_seen(tables: &Tables, third_shares: bool, pair: &Pair) -> Sight
-    requires few { is_few pair.now ≡ true }
-    requires marked { IsMarked pair.now }
-    ensures seen { result ≡ home_data_seen tables.now third_shares pair.now }
-    ensures followed { IsFollowed result }
+    requires { CanBeFollowed pair.now }
+    ensures { IsFollowedAs (home_data_seen tables.now third_shares pair.now) result }
 {
     if pair.shared.home_data == 0 {
         return Sight::Unmoved;

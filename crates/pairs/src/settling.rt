@@ -1,5 +1,5 @@
 ghost use Rattle.std.specs.Prelude.{◌≡◌, ◌&&◌, not};
-ghost use Rattle.pairs.specs.Marking.{IsFollowed, IsMarked};
+ghost use Rattle.pairs.specs.Marking.{IsFollowedAs, IsMarked};
 ghost use Rattle.pairs.specs.Sights.{looked_at, stored};
 ghost use Rattle.pairs.specs.inner.Following.{done, loads, wait_done};
 
@@ -81,8 +81,7 @@ pub(crate) fn complete(rule: Rule, pair: &mut Pair)
 /// A pair is seen if it is followed. One that can't be is dropped.
 pub(crate) fn look_at(concerned: Party, pair: &Pair) -> Sight
     requires { IsMarked pair.now }
-    ensures seen { result ≡ looked_at concerned pair.now }
-    ensures followed { IsFollowed result }
+    ensures { IsFollowedAs (looked_at concerned pair.now) result }
 {
     if !pair.is_few() {
         return Sight::Lost;

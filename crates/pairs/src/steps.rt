@@ -165,8 +165,7 @@ impl Debt {
 
 impl Scene {
     ghost use Rattle.std.specs.Prelude.{◌≡◌, ◌≤◌, true};
-    ghost use Rattle.pairs.specs.Pairs.{is_few};
-    ghost use Rattle.pairs.specs.Marking.{IsMarked};
+    ghost use Rattle.pairs.specs.Marking.{CanBeFollowed};
     ghost use Rattle.pairs.specs.Sights.{announces, forwarded, home_left, invited, others_share, owner_added};
     ghost use Rattle.pairs.specs.inner.Following.{unshared};
 
@@ -188,8 +187,7 @@ impl Scene {
 
     /// An Inv goes onto the link of each other sharer, and names the first cache.
     pub(crate) fn invite(&mut self)
-        requires few { is_few self.old.pair ≡ true }
-        requires marked { IsMarked self.old.pair }
+        requires { CanBeFollowed self.old.pair }
         ensures { self.new ≡ invited self.old }
     {
         if !self.others_share() {
@@ -204,8 +202,7 @@ impl Scene {
 
     /// A forward of this kind goes onto the owner's link, and names the first cache.
     pub(crate) fn forward(&mut self, kind: ForwardKind)
-        requires few { is_few self.old.pair ≡ true }
-        requires marked { IsMarked self.old.pair }
+        requires { CanBeFollowed self.old.pair }
         ensures { self.new ≡ forwarded kind self.old }
     {
         self.pair.link_owner(self.owner, kind);

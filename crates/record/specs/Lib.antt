@@ -5,4 +5,6 @@ pub mod Moving
 pub mod Recordable
 pub mod Telling
 pub mod TextRead
+pub mod TextWritten
+pub mod Keeping
 pub mod inner

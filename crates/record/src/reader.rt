@@ -1,8 +1,10 @@
-ghost use Rattle.std.specs.Prelude.{◌≡◌, ◌≢◌, ◌≤◌, ◌<◌, ◌+◌, ◌↔◌, ◌∷◌, [], ℕ, List, Option, None, IfOk, IfErr, OnOk, OnErr, IsTrue, true, false};
+ghost use Rattle.std.specs.Prelude.{◌≡◌, ◌≢◌, ◌≤◌, ◌<◌, ◌+◌, ◌↔◌, [], ℕ};
+ghost use Rattle.std.specs.Prelude.{List, Option, IfOk, IfErr, OnOk, OnErr, IsTrue, true};
 ghost use Rattle.std.specs.Io.KnownBytes.{IsAtEnd};
 ghost use Rattle.base.specs.Words.{words};
 ghost use Rattle.record_lines.specs.declared.due.Due.TheVariants as due;
 ghost use Rattle.record_lines.specs.Refused.{IsFaultOfLine, IsFaultOfRest, IsRefused, IsWellFormed};
+ghost use Rattle.record.specs.Telling.{IsReadyToTake};
 ghost use Rattle.record.specs.inner.Drafts.{Kept, recorded, lines_left, HasRead, HasTakenLine};
 ghost use Rattle.record.specs.inner.Holding.{holds};
 ghost use Rattle.record.specs.inner.Readers.{HasPulled, HasReadSome, HasWholeLine, IsReading, IsReadWhole, IsReady, StillReads};
@@ -29,8 +31,7 @@ pub(crate) struct Reader<N> {
 impl<N: Entries> Reader<N> {
     /// A reader that has read nothing, whose entries these will take. There is room for a line, and for the opening values.
     pub(crate) fn open(alloc: Global, entries: N) -> Result<Reader<N>, NoMemory>
-        requires none { N.tells entries None }
-        requires space { N.has_room entries 0 }
+        requires { IsReadyToTake N.tells N.has_room entries }
         ensures reading { IfOk result (λ reader. (left : Option (List ℕ)) → IsReading N.tells left left reader) }
         ensures ready { IfOk result (IsReady N.has_room) }
     {

@@ -1,16 +1,16 @@
-ghost use Rattle.std.specs.Prelude.{◌≡◌, ◌≢◌, IfOk, IfErr, OnOk, MatchOption, MatchResult, Some, None, true};
+ghost use Rattle.std.specs.Prelude.{◌≡◌, ◌≢◌, IfOk, IfErr, OnOk, MatchOption, MatchResult, Some, true};
 ghost use Rattle.tables.specs.declared.cell_places.CellPlace.{CellPlace};
-ghost use Rattle.record.specs.TextRead.{HasTold, IsReadFault, IsTextRead};
+ghost use Rattle.record.specs.Telling.{IsReadyToTake};
+ghost use Rattle.record.specs.TextRead.{HasTold, ReadsText, RefusesText};
 ghost use Rattle.record.specs.Versions.{HasTextIn};
 ghost use Rattle.record_lines.specs.declared.version.Version.{Version};
 ghost use Rattle.base.specs.Words.{words};
 ghost use Rattle.record_lines.specs.declared.cells.Cell as cells;
-ghost use Rattle.record_lines.specs.declared.due.Due.TheVariants.{Header};
 ghost use Rattle.record_lines.specs.Cells.{cell_at, cell_words, is_known, place_of, FitsCell};
 ghost use Rattle.record_lines.specs.Grammar.{MayBeListed};
 ghost use Rattle.record.specs.View.{RecordingView};
 ghost use Rattle.record.specs.Recordable.{AreWhole, IsRecordable};
-ghost use Rattle.record_lines.specs.Refused.{IsOutside, IsRefused, IsWellFormed};
+ghost use Rattle.record_lines.specs.Refused.{IsOutside, IsWellFormed};
 ghost use Rattle.record.specs.Text.{text};
 ghost use Rattle.record.specs.inner.Drafts.{IsBaselineFrom};
 ghost use Rattle.record.specs.inner.Readers.{IsReadWhole};
@@ -31,11 +31,8 @@ impl Recording {
     /// want of memory names a line that isn't whole yet. The text of a recording, in either version, is read back as that recording, if memory
     /// and the source don't fail.
     pub fn read<S: Source>(alloc: Global, source: &mut S) -> Result<Recording, ReadFault>
-        ensures text { IfOk result (λ recording. IsTextRead (S.left source.old) (S.left source.new) recording) }
-        ensures whole { OnOk result (IsWellFormed (S.left source.old) (S.left source.new)) }
-        ensures fault { IfErr result (λ fault. IsRefused (S.left source.old) (S.left source.new) 0 Header fault.line fault.kind) }
-        ensures device { IfErr result (λ fault. fault.kind ≡ ReadKind.Device → S.has_failed source.new ≡ true) }
-        ensures recordable { IfOk result IsRecordable }
+        ensures read { IfOk result (ReadsText (S.left source.old) (S.left source.new)) }
+        ensures refused { IfErr result (RefusesText (S.left source.old) (S.left source.new) (S.has_failed source.new)) }
         ensures back { (version : Version) (r : RecordingView) → IsRecordable r → HasTextIn version r → S.left source.old ≡ Some (text version r) →
             MatchResult result (λ recording. recording ≡ r) (λ fault. IsOutside fault.kind) }
     {
@@ -55,11 +52,9 @@ pub fn read_entries<S: Source, N: Entries>(
     source: &mut S,
     entries: N,
 ) -> Result<N, ReadFault>
-    requires none { N.tells entries None }
-    requires space { N.has_room entries 0 }
-    ensures text { IfOk result (HasTold N.tells (S.left source.old) (S.left source.new)) }
-    ensures fault { IfErr result (IsReadFault (S.left source.old) (S.left source.new)) }
-    ensures device { IfErr result (λ fault. fault.kind ≡ ReadKind.Device → S.has_failed source.new ≡ true) }
+    requires { IsReadyToTake N.tells N.has_room entries }
+    ensures { MatchResult result (HasTold N.tells (S.left source.old) (S.left source.new))
+        (RefusesText (S.left source.old) (S.left source.new) (S.has_failed source.new)) }
 {
     match read_text(alloc, source, entries) {
         Ok(reader) => Ok(reader.entries()),
@@ -73,12 +68,10 @@ fn read_text<S: Source, N: Entries>(
     source: &mut S,
     entries: N,
 ) -> Result<Reader<N>, ReadFault>
-    requires none { N.tells entries None }
-    requires space { N.has_room entries 0 }
+    requires { IsReadyToTake N.tells N.has_room entries }
     ensures text { IfOk result (IsReadWhole N.tells (S.left source.old) (S.left source.new)) }
     ensures whole { OnOk result (IsWellFormed (S.left source.old) (S.left source.new)) }
-    ensures fault { IfErr result (λ fault. IsRefused (S.left source.old) (S.left source.new) 0 Header fault.line fault.kind) }
-    ensures device { IfErr result (λ fault. fault.kind ≡ ReadKind.Device → S.has_failed source.new ≡ true) }
+    ensures refused { IfErr result (RefusesText (S.left source.old) (S.left source.new) (S.has_failed source.new)) }
 {
     let Ok(mut reader) = Reader::open(alloc, entries) else {
         return Err(ReadFault {

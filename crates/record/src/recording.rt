@@ -76,9 +76,10 @@ impl Model for Recording {
 }
 
 impl Recording {
-    ghost use Rattle.std.specs.Prelude.{◌≡◌, ◌≢◌, ◌≤◌, ◌↔◌, ◌∷◌, ◌++◌, [], ◌<◌, Some, IfOk, IsErrOf, OnErr, OnOk, length, slice_get};
+    ghost use Rattle.std.specs.Prelude.{◌≡◌, ◌≢◌, ◌≤◌, ◌<◌, Some, MatchResult, OnOk, length, slice_get};
     ghost use Rattle.base.specs.Extent.{IsWithinLimits};
-    ghost use Rattle.record.specs.View.{opened_of, opened_recording, with_entry, with_owned, AreOwners};
+    ghost use Rattle.record.specs.View.{with_entry, with_owned, AreOwners};
+    ghost use Rattle.record.specs.Keeping.{IsNotFull, IsPushFault, OpensRecording};
     ghost use Rattle.world.specs.declared.worlds.OpenFault.TheVariants as fault;
 
     /// A recording of a world to which nothing has happened, with one opening value for each block. It takes no memory.
@@ -90,9 +91,8 @@ impl Recording {
         tables: Tables,
         opening: Vec<u64>,
     ) -> Result<Recording, OpenFault>
-        ensures opened { IfOk result (λ recording. recording ≡ opened_recording shape tables opening.items) }
-        ensures opening_length { IsErrOf result fault.OpeningLength ↔ (length opening.items ≢ shape.blocks) }
-        ensures memory { ¬ IsErrOf result fault.NoMemory }
+        ensures { MatchResult result (OpensRecording 0 shape tables opening.items)
+            (λ refused. (refused ≡ fault.OpeningLength) × (length opening.items ≢ shape.blocks)) }
     {
         if opening.len() != shape.blocks() as usize {
             return Err(OpenFault::OpeningLength);
@@ -115,11 +115,9 @@ impl Recording {
         opening: Vec<u64>,
         seats: u32,
     ) -> Result<Recording, OpenFault>
-        requires some { 1 ≤ seats }
-        requires few { seats ≤ 64 }
-        ensures opened { IfOk result (λ recording. recording ≡ opened_of seats shape tables opening.items) }
-        ensures opening_length { IsErrOf result fault.OpeningLength ↔ (length opening.items ≢ shape.blocks) }
-        ensures memory { ¬ IsErrOf result fault.NoMemory }
+        requires { (1 ≤ seats) × (seats ≤ 64) }
+        ensures { MatchResult result (OpensRecording seats shape tables opening.items)
+            (λ refused. (refused ≡ fault.OpeningLength) × (length opening.items ≢ shape.blocks)) }
     {
         if opening.len() != shape.blocks() as usize {
             return Err(OpenFault::OpeningLength);
@@ -172,8 +170,8 @@ impl Recording {
     pub fn push(&mut self, entry: Entry) -> Result<(), PushFault>
         requires seats { self.old.seats ≡ 0 }
         ensures ok { OnOk result (self.new ≡ with_entry self.old entry) }
-        ensures err { OnErr result (self.new ≡ self.old) }
-        ensures full { IsErrOf result PushFault.Full ↔ (length self.old.entries ≡ 1000000) }
+        ensures refused { MatchResult result (λ _. IsNotFull self.old)
+            (λ fault. IsPushFault self.old fault × (self.new ≡ self.old)) }
     {
         if self.entries.len() >= MOST_ENTRIES {
             return Err(PushFault::Full);
@@ -190,8 +188,8 @@ impl Recording {
     pub fn push_by(&mut self, entry: Entry, seat: u32) -> Result<(), PushFault>
         requires seat { seat < self.old.seats }
         ensures ok { OnOk result (self.new ≡ with_owned self.old entry (Some seat)) }
-        ensures err { OnErr result (self.new ≡ self.old) }
-        ensures full { IsErrOf result PushFault.Full ↔ (length self.old.entries ≡ 1000000) }
+        ensures refused { MatchResult result (λ _. IsNotFull self.old)
+            (λ fault. IsPushFault self.old fault × (self.new ≡ self.old)) }
     {
         if self.entries.len() >= MOST_ENTRIES {
             return Err(PushFault::Full);

@@ -1,13 +1,13 @@
-ghost use Rattle.std.specs.Prelude.{◌≡◌, ◌≤◌, ◌<◌, ◌+◌, ◌^◌, [], IfOk, IfErr, OnOk, slice_index_or, length, take};
-ghost use Rattle.std.specs.Io.KnownBytes.{Appends};
+ghost use Rattle.std.specs.Prelude.{◌≡◌, ◌≤◌, ◌<◌, ◌+◌, ◌^◌, [], IfOk, IfErr, MatchResult, slice_index_or, length};
 ghost use Rattle.base.specs.Ends.{MarksFault};
 ghost use Rattle.tables.specs.Tables.{baseline_of};
 ghost use Rattle.record_lines.specs.Cells.{cell_at, FitsCell, IsInWhole};
 ghost use Rattle.record.specs.View.{IsRecordKept};
-ghost use Rattle.record_lines.specs.declared.version.Version.TheVariants as Version;
-ghost use Rattle.record.specs.Recordable.{AreWhole, IsRecordable};
-ghost use Rattle.record.specs.Text.{text, changed_cells, is_changed};
-ghost use Rattle.record.specs.inner.Pieces.{pieces, head_piece, value_piece, cells_piece, cell_piece, entries_piece, end_piece};
+ghost use Rattle.record.specs.Recordable.{AreWhole};
+ghost use Rattle.record.specs.Text.{changed_cells, is_changed};
+ghost use Rattle.record.specs.TextWritten.{WritesText, WritesFrontOfText};
+ghost use Rattle.record.specs.inner.Pieces.{IsPiece, pieces, head_piece, value_piece, cells_piece};
+ghost use Rattle.record.specs.inner.Pieces.{cell_piece, entries_piece, end_piece};
 ghost use Rattle.record.specs.inner.Pieces.{IsOut, IsCutOff, PieceFits};
 
 use crate::recording::Recording;
@@ -31,11 +31,9 @@ impl Recording {
     ///
     /// It is refused only where the sink failed, and then exactly the first `written` bytes of the text went out.
     pub fn write<S: Sink>(&self, sink: &mut S) -> Result<(), WriteFault>
-        ensures ok { OnOk result (Appends (S.taken sink.old) (S.taken sink.new) (text Version.Two self.now)) }
-        ensures err { IfErr result (λ fault. Appends (S.taken sink.old) (S.taken sink.new) (take fault.written (text Version.Two self.now))) }
-        ensures short { IfErr result (λ fault. fault.written < length (text Version.Two self.now)) }
+        ensures written { MatchResult result (λ _. WritesText (S.taken sink.old) (S.taken sink.new) self.now)
+            (λ fault. WritesFrontOfText (S.taken sink.old) (S.taken sink.new) self.now fault.written) }
         ensures mark { MarksFault (S.has_failed sink.old) result (S.has_failed sink.new) }
-        ensures recordable { OnOk result (IsRecordable self.now) }
     {
         let own = Tables::baseline_of(self.protocol());
         let changed = count_changed(&self.tables(), &own);
@@ -63,8 +61,7 @@ impl Recording {
         requires own { own.now ≡ baseline_of self.now.tables.protocol }
         requires within { number < length (pieces self.now) }
         requires changed { changed ≡ length (changed_cells self.now.tables) }
-        ensures piece { result ≡ slice_index_or (pieces self.now) number [] }
-        ensures short { length result ≤ 192 }
+        ensures piece { IsPiece (slice_index_or (pieces self.now) number []) result }
         ensures fits { PieceFits self.now number }
     {
         let (opening, entries) = (self.opening(), self.entries());
@@ -94,8 +91,7 @@ impl Recording {
 
 /// The lines of the header, the protocol, the shape and the seats, and the first word of the next.
 fn head(protocol: Protocol, shape: Shape, seats: u32) -> Text
-    ensures piece { result ≡ head_piece protocol shape seats }
-    ensures short { length result ≤ 192 }
+    ensures { IsPiece (head_piece protocol shape seats) result }
 {
     let mut text = Text::new();
     text.push(b"msi-recording 2\nprotocol ");
@@ -111,8 +107,7 @@ fn head(protocol: Protocol, shape: Shape, seats: u32) -> Text
 
 /// An opening value, with a blank before it.
 fn value(value: u64) -> Text
-    ensures piece { result ≡ value_piece value }
-    ensures short { length result ≤ 192 }
+    ensures piece { IsPiece (value_piece value) result }
     ensures fits { value < 2 ^ 64 }
 {
     let mut text = Text::new();
@@ -122,8 +117,7 @@ fn value(value: u64) -> Text
 
 /// The end of the line of the opening values, and the line that says how many cells follow.
 fn cells_head(changed: u64) -> Text
-    ensures piece { result ≡ cells_piece changed }
-    ensures short { length result ≤ 192 }
+    ensures { IsPiece (cells_piece changed) result }
 {
     let mut text = Text::new();
     text.push(b"\ncells");
@@ -135,8 +129,7 @@ fn cells_head(changed: u64) -> Text
 /// The line of a cell, if it differs from the protocol's own, and else nothing.
 fn cell_if_changed(tables: &Tables, own: &Tables, place: CellPlace) -> Text
     requires { own.now ≡ baseline_of tables.now.protocol }
-    ensures piece { result ≡ cell_piece tables.now place }
-    ensures short { length result ≤ 192 }
+    ensures { IsPiece (cell_piece tables.now place) result }
 {
     if is_changed(tables, own, place) {
         cell_line(&Cell::at(tables, place))
@@ -147,8 +140,7 @@ fn cell_if_changed(tables: &Tables, own: &Tables, place: CellPlace) -> Text
 
 /// The line that says how many entries follow.
 fn entries_head(count: u64) -> Text
-    ensures piece { result ≡ entries_piece count }
-    ensures short { length result ≤ 192 }
+    ensures { IsPiece (entries_piece count) result }
 {
     let mut text = Text::new();
     text.push(b"entries");
@@ -159,8 +151,7 @@ fn entries_head(count: u64) -> Text
 
 /// The last line.
 fn end() -> Text
-    ensures piece { result ≡ end_piece }
-    ensures short { length result ≤ 192 }
+    ensures { IsPiece end_piece result }
 {
     let mut text = Text::new();
     text.push(b"end\n");

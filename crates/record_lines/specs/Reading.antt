@@ -1,19 +1,20 @@
 -- How a text is read line by line.
 use Rattle.std.specs.Prelude.{Bool, true, false, ◌≡◌, ◌≢◌, ◌⊎◌, ℕ, ◌+◌, ◌-◌, min, ◌<◌, ◌≤◌, ◌^◌, List, [], ◌∷◌, ◌++◌, Option, All, codes, length}
-use Rattle.std.specs.Io.KnownBytes.{prepend_known}
+use Rattle.std.specs.Io.KnownBytes.{Consumes, IsAtEnd, prepend_known}
 use Rattle.std.specs.Fmt.{decimal}
 use Rattle.base.specs.Extent.{Extent}
 use Rattle.base.specs.declared.controller.protocol.Protocol.{Protocol}
 use Rattle.record_lines.specs.declared.version.Version.{Version}
 use Rattle.record_lines.specs.Versions.{protocol_words, IsShapeIn}
-use Rattle.record_lines.specs.Grammar.{IsOwner}
+use Rattle.record_lines.specs.Grammar.{FitsEntry, FitsTold, IsOwner}
 use Rattle.base.specs.Words.{joined}
 use Rattle.base.specs.Spelling.{step_words, FitsStep}
 use Rattle.base.specs.declared.step.Step.{Step}
 use Rattle.record_lines.specs.declared.cells.Cell.{Cell}
 use Rattle.record_lines.specs.Cells.{cell_words, FitsCell}
-use Rattle.record_lines.specs.Text.{by_words, end_words, entry_words, shape_words, opening_words}
+use Rattle.record_lines.specs.Text.{by_words, end_words, entry_words, shape_words, opening_words, told_words}
 use Rattle.record_lines.specs.declared.entry.Entry.{Entry}
+use Rattle.record_lines.specs.declared.told.Told.{Told}
 use Rattle.record_lines.specs.declared.fault.ReadKind.{ReadKind}
 use Rattle.record_lines.specs.declared.fault.ReadKind.TheVariants.{OverLimit, BadLine, BadOutcome, CountDiffers, UnknownProtocol}
 use Rattle.record_lines.specs.Refused.{HasNoEnd, IsHigherCount, IsOtherShape, HasNoOutcome, HasOtherName}
@@ -36,6 +37,35 @@ stream gathered left = prepend_known (pending gathered) left
 abbrev pub BeginsWithEnd : List ℕ → Type 0
 BeginsWithEnd bytes = (behind : List ℕ) × (bytes ≡ 10 ∷ behind)
 
+-- whether there are bytes
+abbrev pub AreSomeIf : Bool → List ℕ → Type 0
+AreSomeIf true bytes = 0 < length bytes
+AreSomeIf false bytes = bytes ≡ []
+
+-- the line was gathered further of the bytes ahead, to no more than so many bytes unless it had more: none is lost, and its end isn't passed
+pub record Gathers (most : ℕ) (old new : Gathered) : Type 0 where
+  pub kept : pending new ≡ pending old
+  pub ahead : length new.ahead ≤ length old.ahead
+  pub no_end : HasNoEnd new.line
+  pub short : length old.line ≤ most → length new.line ≤ most
+  pub number : new.number ≡ old.number
+
+-- the next bytes of a source were pulled, and stand ahead; or there were none, and the source is at its end
+pub record Pulls (before after : Option (List ℕ)) (old new : Gathered) (some : Bool) : Type 0 where
+  pub bytes : Consumes before after new.ahead
+  pub some_if : AreSomeIf some new.ahead
+  pub at_end : new.ahead ≡ [] → IsAtEnd after
+  pub few : length new.ahead ≤ 4096
+  pub line : new.line ≡ old.line
+  pub number : new.number ≡ old.number
+
+-- no bytes came of a source
+pub record PullsNone (before after : Option (List ℕ)) (old new : Gathered) : Type 0 where
+  pub ahead : new.ahead ≡ []
+  pub bytes : Consumes before after new.ahead
+  pub line : new.line ≡ old.line
+  pub number : new.number ≡ old.number
+
 -- the line, whose end is next, was taken off
 pub record IsTakenOff (old new : Gathered) : Type 0 where
   pub line : new.line ≡ []
@@ -44,6 +74,7 @@ pub record IsTakenOff (old new : Gathered) : Type 0 where
 
 -- the line of this entry, no part of which was gathered, was taken off with its end
 pub record IsEntryTakenOff (entry : Entry) (old new : Gathered) : Type 0 where
+  pub fits : FitsEntry entry
   pub none : old.line ≡ []
   pub ahead : old.ahead ≡ joined (entry_words entry) ++ 10 ∷ new.ahead
   pub line : new.line ≡ []
@@ -77,11 +108,6 @@ pub record IsPassed (old new : Gathered) : Type 0 where
 abbrev pub IsPassedIf : Bool → Gathered → Gathered → Type 0
 IsPassedIf true old new = IsPassed old new
 IsPassedIf false old new = HasNoEnd old.ahead × (new ≡ record { line = []; ahead = []; number = old.number })
-
--- whether there are bytes
-abbrev pub AreSomeIf : Bool → List ℕ → Type 0
-AreSomeIf true bytes = 0 < length bytes
-AreSomeIf false bytes = bytes ≡ []
 
 -- a line that is whole has its end ahead, and of one that isn't nothing is ahead
 abbrev pub IsWholeIf : Bool → List ℕ → Type 0
@@ -118,6 +144,12 @@ IsBadShape version line OverLimit = IsOtherShape version line
 IsBadShape version line BadLine = ((shape : Extent) → IsShapeIn version shape → line ≢ shape_words shape) × ¬ IsOtherShape version line
 IsBadShape version line other = ⊥
 
+-- a line of words spells these opening values of so many blocks
+pub record SpellsOpening (blocks : ℕ) (line : List (List ℕ)) (values : List ℕ) : Type 0 where
+  pub count : length values ≡ blocks
+  pub spelled : line ≡ opening_words values
+  pub small : All (λ value. value < 2 ^ 64) values
+
 -- why a line of words isn't that of the opening values of a shape
 abbrev pub IsBadOpening : ℕ → List (List ℕ) → ReadKind → Type 0
 IsBadOpening blocks line BadLine = (values : List ℕ) → length values ≡ blocks → All (λ value. value < 2 ^ 64) values → line ≢ opening_words values
@@ -142,6 +174,11 @@ abbrev pub HasNoOwned : ℕ → List (List ℕ) → Type 0
 HasNoOwned seats line =
     (owner : Option ℕ) (s : Step) (first : List ℕ) (others : List (List ℕ)) → IsOwner seats owner → FitsStep s →
     line ≢ by_words owner ++ (step_words s ++ codes "=" ∷ first ∷ others)
+
+-- a line of words tells this entry, where there are so many seats
+pub record TellsEntry (seats : ℕ) (line : List (List ℕ)) (told : Told) : Type 0 where
+  pub fits : FitsTold seats told
+  pub spelled : line ≡ told_words told
 
 -- why a line of words isn't that of an entry that is told where there are so many seats
 abbrev pub IsBadTold : ℕ → List (List ℕ) → ReadKind → Type 0

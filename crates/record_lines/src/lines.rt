@@ -1,10 +1,9 @@
-ghost use Rattle.std.specs.Prelude.{◌≡◌, ◌≤◌, ◌<◌, ◌+◌, ◌-◌, ◌^◌, ◌∷◌, ◌++◌, [], drop, slice_index_or, length, take, IfSome, IfNone, IfOk, IfErr, OnOk, OnErr};
-ghost use Rattle.std.specs.Io.KnownBytes.{Consumes, IsAtEnd};
+ghost use Rattle.std.specs.Prelude.{◌≡◌, ◌≤◌, ◌<◌, ◌+◌, ◌-◌, ◌^◌, ◌++◌, [], drop, slice_index_or, length, take, IfOk, MatchOption, MatchResult};
 ghost use Rattle.std.specs.Vec.{vec_capacity};
 ghost use Rattle.base.specs.Ends.{MarksFault};
-ghost use Rattle.record_lines.specs.Grammar.{FitsEntry};
 ghost use Rattle.record_lines.specs.Refused.{HasNoEnd, IsTooLong};
-ghost use Rattle.record_lines.specs.Reading.{Gathered, AreSomeIf, BeginsWithEnd, HasFrontIf, IsEntryTakenOff, IsPassedIf, IsStepTakenOff, IsTakenOff, IsWholeIf, pending};
+ghost use Rattle.record_lines.specs.Reading.{AreSomeIf, BeginsWithEnd, Gathers, HasFrontIf, IsEntryTakenOff, IsPassedIf, IsStepTakenOff, IsTakenOff, IsWholeIf};
+ghost use Rattle.record_lines.specs.Reading.{Pulls, PullsNone, pending};
 
 use crate::entry::Entry;
 use crate::fault::ReadKind;
@@ -94,15 +93,10 @@ impl Lines {
     ///
     /// It is refused `OverLimit` where the line has more than so many bytes.
     pub fn gather(&mut self, most: usize) -> Result<bool, ReadKind>
-        requires most { most ≤ 1400000 }
-        requires line { length self.old.line ≤ most }
-        ensures ok { IfOk result (λ whole. IsWholeIf whole self.new.ahead) }
-        ensures err { IfErr result (λ kind. (kind ≡ ReadKind.OverLimit) × IsTooLong most (pending self.new)) }
-        ensures kept { pending self.new ≡ pending self.old }
-        ensures ahead { length self.new.ahead ≤ length self.old.ahead }
-        ensures number { self.new.number ≡ self.old.number }
-        ensures open { HasNoEnd self.new.line }
-        ensures short { length self.new.line ≤ most }
+        requires { (length self.old.line ≤ most) × (most ≤ 1400000) }
+        ensures gathers { Gathers most self.old self.new }
+        ensures whole { MatchResult result (λ whole. IsWholeIf whole self.new.ahead)
+            (λ kind. (kind ≡ ReadKind.OverLimit) × IsTooLong most (pending self.new)) }
     {
         let count = self.bytes_of_line();
         if count > most - (self.line.len() + self.held) {
@@ -115,11 +109,9 @@ impl Lines {
     /// Gathers the line as far as its bytes were pulled, but no more than so many of them, and answers whether its front is
     /// there: its end is next, or it has as many bytes.
     pub fn gather_front(&mut self, most: usize) -> bool
-        requires most { most ≤ 1400000 }
+        requires { most ≤ 1400000 }
+        ensures gathers { Gathers most self.old self.new }
         ensures front { HasFrontIf result most self.new }
-        ensures kept { pending self.new ≡ pending self.old }
-        ensures number { self.new.number ≡ self.old.number }
-        ensures short { length self.old.line ≤ most → length self.new.line ≤ most }
     {
         let left = most.saturating_sub(self.line.len() + self.held);
         let count = self.bytes_of_line().min(left);
@@ -163,14 +155,9 @@ impl Lines {
 
     /// Pulls the next bytes, where none are ahead, and answers whether there were any.
     pub fn pull<S: Source>(&mut self, source: &mut S) -> Result<bool, Failed>
-        requires none { self.old.ahead ≡ [] }
-        ensures bytes { Consumes (S.left source.old) (S.left source.new) self.new.ahead }
-        ensures some { IfOk result (λ some. AreSomeIf some self.new.ahead) }
-        ensures end { OnOk result (self.new.ahead ≡ [] → IsAtEnd (S.left source.new)) }
-        ensures few { length self.new.ahead ≤ 4096 }
-        ensures err { OnErr result (self.new.ahead ≡ []) }
-        ensures line { self.new.line ≡ self.old.line }
-        ensures number { self.new.number ≡ self.old.number }
+        requires { self.old.ahead ≡ [] }
+        ensures pull { MatchResult result (Pulls (S.left source.old) (S.left source.new) self.old self.new)
+            (λ _. PullsNone (S.left source.old) (S.left source.new) self.old self.new) }
         ensures mark { MarksFault (S.has_failed source.old) result (S.has_failed source.new) }
     {
         self.at = 0;
@@ -182,10 +169,8 @@ impl Lines {
     /// Takes off the next line where no part of it was gathered, all of it was pulled and it is found to be an entry's.
     #[inline(always)]
     pub fn take_entry(&mut self) -> Option<Entry>
-        requires few { self.old.number < 2 ^ 60 }
-        ensures fits { IfSome result FitsEntry }
-        ensures some { IfSome result (λ entry. IsEntryTakenOff entry self.old self.new) }
-        ensures none { IfNone result (self.new ≡ self.old) }
+        requires { self.old.number < 2 ^ 60 }
+        ensures { MatchOption result (self.new ≡ self.old) (λ entry. IsEntryTakenOff entry self.old self.new) }
     {
         if self.held > 0 || !self.line.is_empty() {
             return None;
@@ -199,8 +184,7 @@ impl Lines {
     /// Takes off the next line where no part of it was gathered, all of it was pulled and it is found to be a step's.
     #[inline(always)]
     pub fn take_step(&mut self) -> Option<Step>
-        ensures some { IfSome result (λ step. IsStepTakenOff step self.old self.new) }
-        ensures none { IfNone result (self.new ≡ self.old) }
+        ensures { MatchOption result (self.new ≡ self.old) (λ step. IsStepTakenOff step self.old self.new) }
     {
         if !self.line.is_empty() || self.held > 0 {
             return None;

@@ -1,17 +1,18 @@
 //! What single lines of a recording spell.
 
-ghost use Rattle.std.specs.Prelude.{◌≡◌, ◌≢◌, ◌≤◌, ◌<◌, ◌^◌, ◌↔◌, ◌∷◌, ◌++◌, [], codes, ℕ, List, All, IfOk, IfErr, OnOk, IfSome, IfNone, IsTrue};
-ghost use Rattle.std.specs.Prelude.{MatchOption, length};
+ghost use Rattle.std.specs.Prelude.{◌≡◌, ◌≢◌, ◌≤◌, ◌<◌, ◌↔◌, ◌∷◌, ◌++◌, [], codes, ℕ, List, IfOk, IfErr, IfSome, IfNone, IsTrue};
+ghost use Rattle.std.specs.Prelude.{MatchOption, MatchResult};
 ghost use Rattle.std.specs.Fmt.{decimal};
 ghost use Rattle.std.specs.Vec.{vec_capacity};
 ghost use Rattle.base.specs.Extent.{Extent};
 ghost use Rattle.record_lines.specs.Versions.{protocol_words, IsShapeIn};
 ghost use Rattle.base.specs.Words.{words, joined};
 ghost use Rattle.base.specs.Spelling.{step_words, FitsStep};
-ghost use Rattle.record_lines.specs.Text.{by_words, header_words, shape_words, opening_words, end_words, entry_words, told_words};
-ghost use Rattle.record_lines.specs.Grammar.{FitsEntry, FitsTold, IsOwner};
+ghost use Rattle.record_lines.specs.Text.{by_words, header_words, shape_words, end_words, entry_words};
+ghost use Rattle.record_lines.specs.Grammar.{FitsEntry, IsOwner};
 ghost use Rattle.record_lines.specs.Refused.{IsNumber};
 ghost use Rattle.record_lines.specs.Reading.{IsBadCount, IsBadProtocol, IsBadShape, IsBadOpening, IsBadEntry, IsBadTold, HasNoBy, HasNoSeat, HasNoStep};
+ghost use Rattle.record_lines.specs.Reading.{SpellsOpening, TellsEntry};
 
 use crate::entry::Entry;
 use crate::fault::ReadKind;
@@ -182,11 +183,8 @@ pub fn shape_of(version: Version, line: &[u8]) -> Result<Shape, ReadKind>
 /// Reads the opening values of so many blocks, for which there is room.
 pub fn opening_of(values: &mut Vec<u64>, line: &[u8], blocks: u32) -> Result<(), ReadKind>
     requires room { blocks ≤ vec_capacity values.old }
-    ensures count { OnOk result (length values.new.items ≡ blocks) }
-    ensures words { OnOk result (words line.now ≡ opening_words values.new.items) }
-    ensures small { OnOk result (All (λ value. value < 2 ^ 64) values.new.items) }
+    ensures read { MatchResult result (λ _. SpellsOpening blocks (words line.now) values.new.items) (IsBadOpening blocks (words line.now)) }
     ensures room { vec_capacity values.new ≡ vec_capacity values.old }
-    ensures err { IfErr result (IsBadOpening blocks (words line.now)) }
 {
     let (first, mut rest) = cut(line);
     if first != b"opening".as_slice() {
@@ -245,10 +243,8 @@ pub(crate) fn entry_ahead(bytes: &[u8]) -> Option<(Entry, &[u8])>
 /// The entry that a line tells, where there are so many seats.
 #[inline(always)]
 pub fn told_of(line: &[u8], seats: u32) -> Result<Told, ReadKind>
-    requires few { seats ≤ 64 }
-    ensures fits { IfOk result (FitsTold seats) }
-    ensures ok { IfOk result (λ told. words line.now ≡ told_words told) }
-    ensures err { IfErr result (IsBadTold seats (words line.now)) }
+    requires { seats ≤ 64 }
+    ensures { MatchResult result (TellsEntry seats (words line.now)) (IsBadTold seats (words line.now)) }
 {
     let Some((owner, rest)) = owner_in_front(line, seats) else {
         return Err(ReadKind::BadLine);

@@ -5,6 +5,7 @@ use Rattle.record.specs.View.{RecordingView, told_by, found_by, steps_of, IsLega
 use Rattle.machine.specs.Coherence.{Safe}
 use Rattle.machine.specs.Restraint.{AreRestrained}
 use Rattle.monitor.specs.Violations.{AnswersFirst}
+use Rattle.monitor.specs.declared.violation.Violation.{Violation}
 use Rattle.record.specs.Recordable.{IsRecordable}
 use Rattle.record.specs.TextRead.{IsReadFault, IsTextRead}
 use Rattle.record_lines.specs.declared.fault.ReadKind.TheVariants.{Device}
@@ -26,16 +27,21 @@ abbrev pub FaultOf : RecordingView → ReplayFault → Type 0
 FaultOf r (Differs entry told found) = IsFirstToDiffer r entry told found
 FaultOf r NoMemory = Unit {0}
 
+-- a replay of a recording has found this: each outcome is as told, and this is the first violation, if there is one. There is none exactly where the
+-- steps are safe, and so under restrained tables
+pub record FindsViolation (r : RecordingView) (violation : Option (ℕ × Violation)) : Type 0 where
+  pub legal : IsLegal r
+  pub first : AnswersFirst r.shape r.tables r.opening (steps_of r) violation
+  pub safe : violation ≡ None ↔ Safe r.shape r.tables r.opening (steps_of r)
+  pub clean : AreRestrained r.tables → violation ≡ None
+
 -- what a source had was a text of a recording, whose replay found this
 pub record IsTextReplayed (before after : Option (List ℕ)) (replayed : TextReplayed) : Type 0 where
   pub recording : RecordingView
   pub recordable : IsRecordable recording
   pub read : IsTextRead before after recording
   pub entries : replayed.entries ≡ length recording.entries
-  pub legal : IsLegal recording
-  pub violation : AnswersFirst recording.shape recording.tables recording.opening (steps_of recording) replayed.violation
-  pub safe : replayed.violation ≡ None ↔ Safe recording.shape recording.tables recording.opening (steps_of recording)
-  pub clean : AreRestrained recording.tables → replayed.violation ≡ None
+  pub finds : FindsViolation recording replayed.violation
 
 -- what a source had was a text of a recording, whose replay is refused so
 pub record IsTextNotReplayed (before after : Option (List ℕ)) (fault : ReplayFault) : Type 0 where

@@ -1,9 +1,5 @@
-ghost use Rattle.std.specs.Prelude.{◌≡◌, ◌↔◌, [], None, IfOk, IfErr, OnOk};
-ghost use Rattle.machine.specs.Coherence.{Safe};
-ghost use Rattle.machine.specs.Restraint.{AreRestrained};
-ghost use Rattle.record.specs.View.{IsLegal, steps_of};
-ghost use Rattle.monitor.specs.Violations.{AnswersFirst};
-ghost use Rattle.replays.specs.Replaying.{FaultOf};
+ghost use Rattle.std.specs.Prelude.{◌≡◌, [], IfOk, IfErr};
+ghost use Rattle.replays.specs.Replaying.{FaultOf, FindsViolation};
 ghost use Rattle.replays.specs.inner.Making.{HasMadeFirst};
 ghost use Rattle.replays.specs.inner.SoFar.{IsSoFar};
 
@@ -46,13 +42,8 @@ pub enum ReplayFault {
 /// behind a violation. No violation is found exactly where the steps are safe: where each block always has one writer or
 /// many readers, no blank cell is met, and each load returns the latest store. Under restrained tables, of which the protocol's own are some, they are.
 pub fn replay(alloc: Global, recording: &Recording) -> Result<Replayed, ReplayFault>
-    ensures legal { IfOk result (λ replayed. IsLegal recording.now) }
     ensures entries { IfOk result (λ replayed. replayed.entries.items ≡ recording.now.entries) }
-    ensures violation { IfOk result (λ replayed. AnswersFirst recording.now.shape recording.now.tables recording.now.opening
-        (steps_of recording.now) replayed.violation) }
-    ensures safe { IfOk result (λ replayed. replayed.violation ≡ None ↔ Safe recording.now.shape recording.now.tables recording.now.opening
-        (steps_of recording.now)) }
-    ensures clean { AreRestrained recording.now.tables → IfOk result (λ replayed. replayed.violation ≡ None) }
+    ensures finds { IfOk result (λ replayed. FindsViolation recording.now replayed.violation) }
     ensures differs { IfErr result (FaultOf recording.now) }
 {
     let violation = first_violation(alloc, recording)?;
@@ -68,12 +59,7 @@ pub fn first_violation(
     alloc: Global,
     recording: &Recording,
 ) -> Result<Option<(u64, Violation)>, ReplayFault>
-    ensures legal { OnOk result (IsLegal recording.now) }
-    ensures violation { IfOk result (λ violation. AnswersFirst recording.now.shape recording.now.tables recording.now.opening
-        (steps_of recording.now) violation) }
-    ensures safe { IfOk result (λ violation. violation ≡ None ↔ Safe recording.now.shape recording.now.tables recording.now.opening
-        (steps_of recording.now)) }
-    ensures clean { AreRestrained recording.now.tables → IfOk result (λ violation. violation ≡ None) }
+    ensures finds { IfOk result (FindsViolation recording.now) }
     ensures differs { IfErr result (FaultOf recording.now) }
 {
     violations_are_what_isnt_safe();

@@ -22,7 +22,7 @@ pub struct Story {
 
 impl Drop for Story {
     fn drop(self) {
-        // Whoever drops one has a call to prove, and not the drops of all its parts.
+        // One call drops all its parts.
         let Story {
             world: _,
             watch: _,

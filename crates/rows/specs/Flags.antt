@@ -1,5 +1,6 @@
 -- A row of flags, and the places of those that are set.
-use Rattle.std.specs.Prelude.{◌≡◌, ℕ, ◌<◌, ◌≤◌, List, Bool, true, false, slice_index_or, take}
+use Rattle.std.specs.Prelude.{◌≡◌, ℕ, ◌<◌, ◌≤◌, ◌==◌, List, Bool, true, false, if◌then◌else◌, length, slice_index_or, take}
+use Rattle.std.specs.Int.{bit_at}
 use Rattle.std.specs.List.{count_by}
 
 -- whether the flag at a place is set; beyond the row none is
@@ -24,3 +25,8 @@ pub record NoneFrom (flags : List Bool) (from : ℕ) : Type 0 where
 pub record IsKth (flags : List Bool) (k at : ℕ) : Type 0 where
   pub set : is_set flags at ≡ true
   pub before : set_count (take at flags) ≡ k
+
+-- the flags at these places, each a bit that is set, are as told by bits; the others are as they were
+pub record HasPut (places told : ℕ) (old new : List Bool) : Type 0 where
+  pub long : length new ≡ length old
+  pub each : (k : ℕ) → is_set new k ≡ (if bit_at places k == 1 then bit_at told k == 1 else is_set old k)

@@ -1,7 +1,8 @@
 -- A row of places, of which some have an item.
 use Rattle.std.specs.Prelude.{◌≡◌, ◌≢◌, ℕ, ◌+◌, ◌<◌, ◌≤◌, List, [], ◌∷◌, ◌++◌, Option, None, Some, IsSome}
-use Rattle.std.specs.Prelude.{is_some, if◌then◌else◌, length}
+use Rattle.std.specs.Prelude.{is_some, if◌then◌else◌, length, IsOk, IfErr, OnErr, OnOk}
 use Rattle.std.specs.Prelude.{slice_get, slice_index, slice_index_or, slice_set}
+use Rattle.std.specs.declared.result.Result.{Result}
 
 -- a row, as contracts see it: what stands at each place, the places with an item in order of first use, and how many
 -- more places get an item without asking for memory
@@ -27,6 +28,25 @@ module _ {T : Type 0} where
   pub record UsesOnePlace (at : ℕ) (old new : Row T) : Type 0 where
     pub one : old.spare ≤ new.spare + 1
     pub none : IsSome (item old at) → old.spare ≤ new.spare
+
+  -- a place has this item, or it came back and no item has changed; where the place had one, or there was room, it has this one now
+  pub record Puts {U : Type 0} (at : ℕ) (value : T) (result : Result U T) (old new : Row T) : Type 0 where
+    pub ok : OnOk result (new.items ≡ slice_set old.items at (Some value))
+    pub order : OnOk result (new.keys ≡ keys_with old at)
+    pub err : OnErr result (new.items ≡ old.items)
+    pub err_order : OnErr result (new.keys ≡ old.keys)
+    pub back : IfErr result (λ returned. returned ≡ value)
+    pub has_one : IsSome (item old at) → IsOk result
+    pub succeeds : 0 < old.spare → IsOk result
+    pub room : UsesOnePlace at old new
+
+  -- there is room for so many more places to get an item, unless that was refused, which it isn't where there was; nothing else has changed
+  pub record MakesPlaces {U E : Type 0} (more : ℕ) (result : Result U E) (old new : Row T) : Type 0 where
+    pub items : new.items ≡ old.items
+    pub keys : new.keys ≡ old.keys
+    pub ok : OnOk result (more ≤ new.spare)
+    pub succeeds : more ≤ old.spare → IsOk result
+    pub room : old.spare ≤ new.spare
 
   -- the keys are just the places with an item, each listed once
   pub record AreTouched (row : Row T) : Type 0 where

@@ -1,7 +1,7 @@
 ghost use Rattle.std.specs.Prelude.{◌≡◌, ℕ, ◌+◌, ◌*◌, ◌<◌, ◌≤◌, ◌^◌, ◌↔◌, ◌/◌, ◌%◌, ◌==◌, if◌then◌else◌, false, true, IfNone};
 ghost use Rattle.std.specs.Prelude.{IfOk, IfSome, IsSome, OnErr, OnOk, length, replicate, slice_set};
 ghost use Rattle.std.specs.Int.{bit_at};
-ghost use Rattle.rows.specs.Flags.{is_set, set_count, IsFirstFrom, IsKth, NoneFrom};
+ghost use Rattle.rows.specs.Flags.{HasPut, IsFirstFrom, IsKth, NoneFrom, is_set, set_count};
 ghost use Rattle.rows.specs.inner.Words.{low};
 
 use base::NoMemory;
@@ -105,8 +105,7 @@ impl Bits {
     pub fn put(&mut self, places: u64, told: u64)
         requires few { length self.old ≤ 64 }
         requires inside { (k : ℕ) → bit_at places k ≡ 1 → k < length self.old }
-        ensures long { length self.new ≡ length self.old }
-        ensures each { (k : ℕ) → is_set self.new k ≡ (if bit_at places k == 1 then bit_at told k == 1 else is_set self.old k) }
+        ensures { HasPut places told self.old self.new }
     {
         let Some(first) = self.words.first() else {
             return;

@@ -6,7 +6,7 @@ ghost use Rattle.std.specs.Option.{option_copied, option_copied_mut, option_map}
 ghost use Rattle.rows.specs.Lends.{lends_item};
 ghost use Rattle.indexmap.specs.IndexMap.{IsEmpty, get, index_map_len, keys, values};
 ghost use Rattle.rows.specs.inner.Items.{AreHinted, seen_entries};
-ghost use Rattle.rows.specs.Row.{item, keys_with, AreTouched, UsesOnePlace};
+ghost use Rattle.rows.specs.Row.{AreTouched, MakesPlaces, Puts, item};
 
 use crate::try_clone::TryClone;
 use base::NoMemory;
@@ -107,14 +107,7 @@ impl<T> Sparse<T> {
     where
         T: Drop,
         requires { at < length self.old.items }
-        ensures ok { OnOk result (self.new.items ≡ slice_set self.old.items at (Some value)) }
-        ensures order { OnOk result (self.new.keys ≡ keys_with self.old at) }
-        ensures err { OnErr result (self.new.items ≡ self.old.items) }
-        ensures err_order { OnErr result (self.new.keys ≡ self.old.keys) }
-        ensures back { IfErr result (λ back. back ≡ value) }
-        ensures has_one { IsSome (item self.old at) → IsOk result }
-        ensures succeeds { 0 < self.old.spare → IsOk result }
-        ensures room { UsesOnePlace at self.old self.new }
+        ensures { Puts at value result self.old self.new }
     {
         if let Some(item) = self.get_mut(at) {
             *item = value;
@@ -151,11 +144,7 @@ impl<T> Sparse<T> {
 
     /// Room for so many more places to get an item. Where it is refused no item has changed.
     pub fn reserve(&mut self, more: usize) -> Result<(), NoMemory>
-        ensures items { self.new.items ≡ self.old.items }
-        ensures keys { self.new.keys ≡ self.old.keys }
-        ensures ok { OnOk result (more ≤ self.new.spare) }
-        ensures succeeds { more ≤ self.old.spare → IsOk result }
-        ensures room { self.old.spare ≤ self.new.spare }
+        ensures { MakesPlaces more result self.old self.new }
     {
         self.held.reserve(more)?;
         Ok(())

@@ -8,7 +8,7 @@ use crate::tree::Scenario;
 use base::CoreAsk;
 use std::alloc::Allocator;
 
-/// Reads each number of the scenario. It is called for its contract: a number is known to be in range once it is read.
+/// Reads each number of the scenario: each is in the range of its type.
 #[cycle(fitting)]
 #[tactic(auto, using(crate::proofs::Children::children))]
 pub(crate) fn read_numbers<A: Allocator>(scenario: &Scenario<A>)

@@ -1,1 +1,2 @@
+pub mod Promises
 mod Unwrapping

@@ -1,13 +1,12 @@
-ghost use Rattle.std.specs.Prelude.{◌≡◌, ◌<◌, ◌≤◌, ◌↔◌, [], IfOk, IsErrOf, OnOk, vec_capacity};
-ghost use Rattle.machine.specs.Going.{AreNeverStuck};
-ghost use Rattle.machine.specs.Restraint.{AreRestrained};
+ghost use Rattle.std.specs.Prelude.{◌≡◌, ◌≤◌, [], IfOk, IfErr, OnOk, vec_capacity};
 ghost use Rattle.scenario.specs.Tree.{plain};
 ghost use Rattle.trials.specs.Series.{planned};
-ghost use Rattle.trials.specs.Trial.{AreResults, AreSound, AreUnbroken};
+ghost use Rattle.trials.specs.Making.{IsBatchFault, MakesBatch};
+ghost use Rattle.trials.specs.Trial.{AreResults};
 
 use crate::laws::{trials_under_restrained_tables, trials_under_tables_that_keep_going};
 use crate::series::Series;
-use crate::setup::Setup;
+use crate::setup::{Setup, setups_are_lawful};
 use crate::verdict::TrialResult;
 use base::NoMemory;
 use bumpalo::Bump;
@@ -40,15 +39,12 @@ pub fn batch<A: Allocator>(
     setup: &Setup,
     n: u32,
 ) -> Result<Vec<TrialResult>, BatchFault>
-    ensures ok { IfOk result (λ results. AreResults setup.now (plain scenario.now) n results.items) }
-    ensures sound { AreNeverStuck setup.now.tables → IfOk result (λ results. AreSound results.items) }
-    ensures unbroken { AreRestrained setup.now.tables → IfOk result (λ results. AreUnbroken results.items) }
-    ensures too_many { IsErrOf result BatchFault.TooMany ↔ (1000000 < n) }
+    ensures made { IfOk result (λ results. MakesBatch setup.now (plain scenario.now) n results.items) }
+    ensures refused { IfErr result (IsBatchFault n) }
 {
     trials_under_restrained_tables();
     trials_under_tables_that_keep_going();
-    // Called for its contract: a setup is lawful.
-    let _limit = setup.limit();
+    setups_are_lawful(setup);
     if n > MOST_TRIALS {
         return Err(BatchFault::TooMany);
     }

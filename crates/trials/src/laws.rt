@@ -7,12 +7,12 @@ ghost use Rattle.machine.specs.Going.{AreNeverStuck};
 ghost use Rattle.record.specs.View.{RecordingView, IsLegal, steps_of};
 ghost use Rattle.record_lines.specs.declared.entry.Entry.{Entry};
 ghost use Rattle.scenario.specs.Tree.{Tree};
-ghost use Rattle.trials.specs.Answering.{AnswersInTurn, AreSequential};
+ghost use Rattle.trials.specs.Answering.{AnswersInTurn};
 ghost use Rattle.moment.specs.Moments.{Moment};
 ghost use Rattle.trials.specs.Moments.{IsPath};
 ghost use Rattle.trials.specs.Terms.{Terms, AreLawful, RunsAreSafe, RunsAreUnstuck};
-ghost use Rattle.trials.specs.Trial.{AreResults, AreSound, AreUnbroken, HasBroken, IsSound, IsTrial, IsUnbroken};
-ghost use Rattle.trials.specs.declared.verdict.TrialResult.{TrialResult};
+ghost use Rattle.trials.specs.Making.{TrialsAreSafe, TrialsAreSound};
+ghost use Rattle.trials.specs.Trial.{HasBroken, IsTrial};
 ghost use Rattle.trials.specs.declared.verdict.Verdict.{Verdict};
 
 /// Whatever the tables, each core's completions answer its loads and stores in its order.
@@ -35,16 +35,8 @@ pub fn trials_break_where_they_arent_safe()
 /// Under tables of which each run is safe no trial breaks, and the completions of each are sequentially consistent; and where none
 /// gets stuck either, no trial is stuck. So it is whatever it is that says so of the tables.
 pub fn trials_of_safe_runs()
-    ensures unbroken { (terms : Terms) (tree : Tree) (number : ℕ) (recording : RecordingView) (verdict : Verdict) →
-        RunsAreSafe terms → IsTrial terms tree number recording verdict → IsUnbroken verdict }
-    ensures unbroken_batch { (terms : Terms) (tree : Tree) (n : ℕ) (results : List TrialResult) →
-        RunsAreSafe terms → AreResults terms tree n results → AreUnbroken results }
-    ensures sequential { (terms : Terms) (tree : Tree) (number : ℕ) (recording : RecordingView) (verdict : Verdict) →
-        RunsAreSafe terms → IsTrial terms tree number recording verdict → AreSequential terms.opening recording.entries }
-    ensures sound { (terms : Terms) (tree : Tree) (number : ℕ) (recording : RecordingView) (verdict : Verdict) →
-        RunsAreSafe terms → RunsAreUnstuck terms → IsTrial terms tree number recording verdict → IsSound verdict }
-    ensures sound_batch { (terms : Terms) (tree : Tree) (n : ℕ) (results : List TrialResult) →
-        RunsAreSafe terms → RunsAreUnstuck terms → AreResults terms tree n results → AreSound results }
+    ensures safe { (terms : Terms) → RunsAreSafe terms → TrialsAreSafe terms }
+    ensures sound { (terms : Terms) → RunsAreSafe terms → RunsAreUnstuck terms → TrialsAreSound terms }
 {
     cores_are_answered_in_turn();
     trials_break_where_they_arent_safe();
@@ -53,14 +45,7 @@ pub fn trials_of_safe_runs()
 /// Under restrained tables, of which the protocol's own are some, no trial breaks, and the completions of each are sequentially
 /// consistent.
 pub fn trials_under_restrained_tables()
-    ensures unbroken { (terms : Terms) (tree : Tree) (number : ℕ) (recording : RecordingView) (verdict : Verdict) →
-        AreRestrained terms.tables → AreLawful terms → IsTrial terms tree number recording verdict →
-        IsUnbroken verdict }
-    ensures unbroken_batch { (terms : Terms) (tree : Tree) (n : ℕ) (results : List TrialResult) →
-        AreRestrained terms.tables → AreLawful terms → AreResults terms tree n results → AreUnbroken results }
-    ensures sequential { (terms : Terms) (tree : Tree) (number : ℕ) (recording : RecordingView) (verdict : Verdict) →
-        AreRestrained terms.tables → AreLawful terms → IsTrial terms tree number recording verdict →
-        AreSequential terms.opening recording.entries }
+    ensures { (terms : Terms) → AreRestrained terms.tables → AreLawful terms → TrialsAreSafe terms }
 {
     machine::restrained_tables_are_safe();
     trials_of_safe_runs();
@@ -68,11 +53,7 @@ pub fn trials_under_restrained_tables()
 
 /// Under restrained tables that keep going and serve asks, of which the protocol's own are some, no trial breaks or is stuck.
 pub fn trials_under_tables_that_keep_going()
-    ensures sound { (terms : Terms) (tree : Tree) (number : ℕ) (recording : RecordingView) (verdict : Verdict) →
-        AreNeverStuck terms.tables → AreLawful terms → IsTrial terms tree number recording verdict →
-        IsSound verdict }
-    ensures sound_batch { (terms : Terms) (tree : Tree) (n : ℕ) (results : List TrialResult) →
-        AreNeverStuck terms.tables → AreLawful terms → AreResults terms tree n results → AreSound results }
+    ensures { (terms : Terms) → AreNeverStuck terms.tables → AreLawful terms → TrialsAreSound terms }
 {
     machine::restrained_tables_are_safe();
     machine::restrained_tables_are_unstuck();

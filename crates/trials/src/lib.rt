@@ -20,6 +20,6 @@ pub use laws::{
 };
 pub use making::trial;
 pub use series::Series;
-pub use setup::{MOST_STEPS, Setup, SetupFault, open_world};
+pub use setup::{MOST_STEPS, Setup, SetupFault, open_world, setups_are_lawful};
 pub use spreading::spread;
 pub use verdict::{Trial, TrialResult, Verdict};

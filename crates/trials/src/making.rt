@@ -1,18 +1,14 @@
-ghost use Rattle.std.specs.Prelude.{◌≡◌, ◌↔◌, IfOk, length};
-ghost use Rattle.machine.specs.Coherence.{Safe};
-ghost use Rattle.machine.specs.Restraint.{AreRestrained};
-ghost use Rattle.machine.specs.Going.{AreNeverStuck};
-ghost use Rattle.record.specs.View.{IsLegal, steps_of};
+ghost use Rattle.std.specs.Prelude.{IfOk};
 ghost use Rattle.scenario.specs.Tree.{plain};
-ghost use Rattle.trials.specs.Answering.{AnswersInTurn, AreSequential};
-ghost use Rattle.trials.specs.Trial.{HasBroken, IsSound, IsTrial, IsUnbroken};
+ghost use Rattle.trials.specs.Making.{MakesTrial};
+ghost use Rattle.trials.specs.Trial.{IsTrial};
 
 use crate::course::Course;
 use crate::laws::{
     cores_are_answered_in_turn, trials_break_where_they_arent_safe, trials_under_restrained_tables,
     trials_under_tables_that_keep_going,
 };
-use crate::setup::{Setup, open_recording};
+use crate::setup::{Setup, open_recording, setups_are_lawful};
 use crate::verdict::{Trial, TrialResult, Verdict};
 use base::NoMemory;
 use bumpalo::Bump;
@@ -34,24 +30,14 @@ pub fn trial<A: Allocator>(
     setup: &Setup,
     number: u32,
 ) -> Result<Trial, NoMemory>
-    ensures trial { IfOk result (λ made. IsTrial setup.now (plain scenario.now) number made.recording made.result.verdict) }
-    ensures number { IfOk result (λ made. made.result.number ≡ number) }
-    ensures steps { IfOk result (λ made. made.result.steps ≡ length made.recording.entries) }
-    ensures legal { IfOk result (λ made. IsLegal made.recording) }
-    ensures in_turn { IfOk result (λ made. AnswersInTurn made.recording.entries) }
-    ensures broke { IfOk result (λ made. HasBroken made.result.verdict ↔
-        (¬ Safe setup.now.shape setup.now.tables setup.now.opening (steps_of made.recording))) }
-    ensures sound { AreNeverStuck setup.now.tables → IfOk result (λ made. IsSound made.result.verdict) }
-    ensures unbroken { AreRestrained setup.now.tables → IfOk result (λ made. IsUnbroken made.result.verdict) }
-    ensures sequential { AreRestrained setup.now.tables → IfOk result (λ made. AreSequential setup.now.opening made.recording.entries) }
+    ensures { IfOk result (λ made. MakesTrial setup.now (plain scenario.now) number made.recording made.result) }
 {
     cores_are_answered_in_turn();
     trials_break_where_they_arent_safe();
     trials_under_restrained_tables();
     trials_under_tables_that_keep_going();
     let arena = Bump::new(alloc);
-    // Called for its contract: a setup is lawful.
-    let _limit = setup.limit();
+    setups_are_lawful(setup);
     let (recording, verdict) = record_trial(alloc, &arena, scenario, setup, number)?;
     let steps = recording.entries().len() as u32;
     Ok(Trial {

@@ -11,7 +11,7 @@ ghost use Rattle.trials.specs.Trial.{IsResult};
 use crate::course::Course;
 use crate::laws::trials_under_tables_that_keep_going;
 use crate::notes::Tally;
-use crate::setup::Setup;
+use crate::setup::{Setup, setups_are_lawful};
 use crate::verdict::TrialResult;
 use base::NoMemory;
 use bumpalo::Bump;
@@ -74,8 +74,7 @@ impl<'s, 'b, A: Allocator> Series<'s, 'b, A> {
         ensures plan { planned self.new ≡ planned self.old }
     {
         trials_under_tables_that_keep_going();
-        // Called for its contract: a setup is lawful.
-        let _limit = self.setup.limit();
+        setups_are_lawful(self.setup);
         if let Some(course) = &mut self.course {
             course.restart(self.alloc, self.scenario, self.setup, number, Tally::new())?;
             return finish(course, self.arena, self.scenario, self.setup, number);

@@ -1,6 +1,7 @@
 ghost use Rattle.std.specs.Prelude.{◌≡◌, IfOk};
-ghost use Rattle.machine.specs.Machine.{opened};
 ghost use Rattle.record.specs.View.{opened_recording};
+ghost use Rattle.trials.specs.Making.{StartsUnder};
+ghost use Rattle.trials.specs.Terms.{AreLawful};
 
 use base::{NoMemory, Shape};
 use record::Recording;
@@ -46,7 +47,7 @@ impl Model for Setup {
 }
 
 impl Setup {
-    ghost use Rattle.std.specs.Prelude.{◌≡◌, ◌≢◌, ◌≤◌, ◌<◌, ◌↔◌, IfOk, IsErrOf, length};
+    ghost use Rattle.std.specs.Prelude.{◌≡◌, ◌≢◌, ◌<◌, ◌↔◌, IfOk, IsErrOf, length};
     ghost use Rattle.trials.specs.Terms.{AreLawful};
 
     /// It is refused `OpeningLength` exactly where there is another number of values than blocks, and else `OverLimit`
@@ -115,14 +116,19 @@ impl Setup {
     }
 }
 
+/// A setup has a shape within the limits, one opening value for each block, and a limit of at most 1,000,000 steps.
+#[inline(always)]
+pub fn setups_are_lawful(setup: &Setup)
+    ensures { AreLawful setup.now }
+{
+    let _ = &setup.opening;
+}
+
 /// A world under `setup` that has made no step.
 ///
 /// It isn't a method, since a type's users load what its methods speak of ("What is loaded", CONTRIBUTING.md).
 pub fn open_world(alloc: Global, setup: &Setup) -> Result<World, NoMemory>
-    ensures shape { IfOk result (λ world. world.shape ≡ setup.now.shape) }
-    ensures tables { IfOk result (λ world. world.tables ≡ setup.now.tables) }
-    ensures opening { IfOk result (λ world. world.opening ≡ setup.now.opening) }
-    ensures state { IfOk result (λ world. world.state ≡ opened setup.now.shape setup.now.opening) }
+    ensures { IfOk result (StartsUnder setup.now) }
 {
     let opening = Vec::from_slice(alloc, setup.opening())?;
     match World::open(alloc, setup.shape(), setup.tables(), opening) {

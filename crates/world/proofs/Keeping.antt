@@ -17,8 +17,7 @@ use Rattle.machine.specs.Coherence.{line_at}
 use Rattle.machine.proofs.Whole.{lines-carried_out}
 use Rattle.blocks.specs.View.{BlockView, moved_to}
 use Rattle.world.specs.View.{AllLined, IsShaped, space_of, spaces_of, state_or, states}
-use Rattle.world.specs.inner.Counts.{AreCounted}
-use Rattle.world.specs.inner.Counts.{Rows}
+use Rattle.world.specs.inner.Counts.{AreCounted, Rows, none_counted}
 use Rattle.world.specs.inner.Holding.{kept_at, IsWorld, OthersStay}
 use Rattle.world.specs.inner.Tests.{IsMarked}
 use Rattle.world.proofs.QuietMarks.{counted-opened}
@@ -194,10 +193,9 @@ pub states-opened : (caches : ℕ) (values : List ℕ) (ks : List (Option BlockV
 states-opened caches values ks n e = ap (states caches values) e ∙ none-kept caches values n
 
 pub world-opened : (shape : Extent) (tables : Tables) (values : List ℕ) (ks : List (Option BlockView)) (rows : Rows) → IsWithinLimits shape →
-    length values ≡ shape.blocks → ks ≡ replicate shape.blocks None → rows.requests ≡ replicate shape.blocks 0 →
-    rows.heads ≡ replicate shape.blocks 0 → rows.responses ≡ replicate shape.blocks 0 →
+    length values ≡ shape.blocks → ks ≡ replicate shape.blocks None → rows ≡ none_counted shape.blocks →
     IsWorld shape tables values ks rows (record { blocks = states shape.caches values ks; broken = false })
-world-opened shape tables values ks rows within e none requests heads responses =
+world-opened shape tables values ks rows within e none counts =
     let opened = states-opened shape.caches values ks shape.blocks none in
     record {
       shaped = subst (λ (bs : List BlockState). IsShaped shape (record { blocks = bs; broken = false })) (sym opened)
@@ -206,7 +204,7 @@ world-opened shape tables values ks rows within e none requests heads responses 
       places = ap length none ∙ length-replicate shape.blocks None;
       marked = λ i. subst (IsMarked tables) (sym (ap (λ os. kept_at os i) none ∙ none-at shape.blocks i)) tt;
       counted =
-          rw (requests, heads, responses)
+          rw counts
           (subst (λ (bs : List BlockState). AreCounted tables bs (replicate shape.blocks 0) (replicate shape.blocks 0) (replicate shape.blocks 0)) (sym opened)
           (counted-opened tables shape.caches shape.blocks values e));
     }

@@ -13,7 +13,7 @@ use Rattle.blocks.specs.Marking.{free_heads, free_requests, free_responses}
 use Rattle.blocks.specs.View.{BlockView}
 use Rattle.world.specs.Keeping.{has_line}
 use Rattle.world.specs.View.{AllLined, IsShaped, space_of, state_or, states}
-use Rattle.world.specs.inner.Counts.{AreCounted, Rows}
+use Rattle.world.specs.inner.Counts.{AreCounted, Rows, none_counted}
 use Rattle.world.specs.inner.Holding.{kept_at, AreLined, IsOpened, IsWorld, OthersStay}
 use Rattle.world.specs.inner.Tests.{IsMarked}
 use Rattle.world.proofs.Keeping.{kept-other, shaped-opened, states-length}
@@ -145,10 +145,9 @@ marked-reset tables caches (v ∷ values) [] e h i = absurd (omega (arith, e))
 -- a world whose blocks are as they open holds together
 pub world-reset : (shape : Extent) (tables : Tables) (values : List ℕ) (ks : List (Option BlockView)) (rows : Rows) → IsWithinLimits shape →
     length values ≡ shape.blocks → length ks ≡ shape.blocks →
-    ((i v : ℕ) → slice_get values i ≡ Some v → IsOpened shape.caches v (kept_at ks i)) → rows.requests ≡ replicate shape.blocks 0 →
-    rows.heads ≡ replicate shape.blocks 0 → rows.responses ≡ replicate shape.blocks 0 →
+    ((i v : ℕ) → slice_get values i ≡ Some v → IsOpened shape.caches v (kept_at ks i)) → rows ≡ none_counted shape.blocks →
     IsWorld shape tables values ks rows (record { blocks = states shape.caches values ks; broken = false })
-world-reset shape tables values ks rows within e places h requests heads responses =
+world-reset shape tables values ks rows within e places h counts =
     let opened = states-reset shape.caches values ks h in
     record {
       shaped = subst (λ (bs : List BlockState). IsShaped shape (record { blocks = bs; broken = false })) (sym opened)
@@ -157,7 +156,7 @@ world-reset shape tables values ks rows within e places h requests heads respons
       places = places;
       marked = marked-reset tables shape.caches values ks (places ∙ sym e) h;
       counted =
-          rw (requests, heads, responses)
+          rw counts
           (subst (λ (bs : List BlockState). AreCounted tables bs (replicate shape.blocks 0) (replicate shape.blocks 0) (replicate shape.blocks 0)) (sym opened)
           (counted-opened tables shape.caches shape.blocks values e));
     }

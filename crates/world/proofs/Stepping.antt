@@ -1,6 +1,6 @@
 -- What a step of one block makes of the world.
 use Rattle.std.proofs.Common.{◌≡◌, ℕ, ◌+◌, ◌-◌, ◌^◌, ◌<◌, ◌≤◌, List, [], Option}
-use Rattle.std.proofs.Common.{Some, None, Bool, false, refl, ap, sym, subst, ◌∙◌, arith}
+use Rattle.std.proofs.Common.{Some, None, Bool, false, inl, inr, refl, ap, sym, subst, ◌∙◌, arith}
 use Rattle.std.proofs.Common.{length, get_or, set, slice_get}
 use Rattle.std.proofs.lemmas.Option.{slice_get_within}
 use Rattle.base.specs.Extent.{Extent}
@@ -19,6 +19,8 @@ use Rattle.network.specs.Traffic.{message_count}
 use Rattle.world.specs.Messages.{messages_at, raised}
 use Rattle.blocks.specs.View.{BlockView, moved_to}
 use Rattle.world.specs.View.{View, IsShaped, HasRoomToStep, HasSpaceAt, HasSpaceIn, space_of, spaces_of, state_or, states, stepped, wakes, wakes_at}
+use Rattle.world.specs.OneStep.{NeedsNoMemory}
+use Rattle.world.specs.inner.AtBlock.{NeedsNoMemoryAt}
 use Rattle.world.specs.inner.Counts.{AreCounted}
 use Rattle.blocks.specs.Marking.{free_heads, free_requests, free_responses}
 use Rattle.blocks.specs.declared.block.testing.Tested.{Tested}
@@ -142,6 +144,13 @@ world-stays shape tables values old new rows i v broken h e others same marked =
     (subst (λ (bs : List BlockState). IsShaped shape (record { blocks = bs; broken = broken })) stay h.shaped)
     marked
     (subst (λ bs. AreCounted tables bs rows.requests rows.heads rows.responses) stay h.counted)
+
+-- a step that wants no memory wants none at its block
+pub needs-in : (shape : Extent) (tables : Tables) (values : List ℕ) (ks : List (Option BlockView)) (tested : ℕ) (step : Step) (v : ℕ) →
+    Some v ≡ slice_get values (block_of step) → NeedsNoMemory (view_of shape tables values ks false tested) step →
+    NeedsNoMemoryAt tables shape.caches v (block_of step) step ks
+needs-in shape tables values ks tested step v e (inl room) = inl (room-at shape tables values ks tested step v e room)
+needs-in shape tables values ks tested step v e (inr light) = inr (light-in shape tables values ks tested step v e light.0 light.1)
 
 -- the outcome of the next step
 pub outcome-is : (shape : Extent) (tables : Tables) (values : List ℕ) (ks : List (Option BlockView)) (step : Step) (v : ℕ) →

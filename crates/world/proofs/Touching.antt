@@ -88,6 +88,15 @@ pub light-at : (tables : Tables) (s : Step) (caches value : ℕ) (old : Option B
 light-at tables s caches value None h = inr (opened-wakes tables s caches value h.wakes)
 light-at tables s caches value (Some k) h = inl refl
 
+-- and so is one that wants no memory
+pub either-at : (tables : Tables) (s : Step) (caches value : ℕ) (old : Option BlockView) →
+    (HasSpaceAt (decision_of tables s (state_or caches value old)) (state_or caches value old) (space_of old))
+    ⊎ SendsAndWakesNothing tables s (state_or caches value old) →
+    (IsSome old) ⊎ (acts (decision_of tables s (state_or caches value old)) ≡ false)
+either-at tables s caches value None (inl none) = inr none
+either-at tables s caches value (Some k) (inl space) = inl refl
+either-at tables s caches value old (inr light) = light-at tables s caches value old light
+
 -- what no cell acts on wants nothing
 pub idle-wants : (d : Decision) (b : BlockState) (space : Space) → acts d ≡ false → BlockNeedsNoMemory d b space
 idle-wants (Refused what) b space none = inr (refl, refl)

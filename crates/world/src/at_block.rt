@@ -1,12 +1,8 @@
-ghost use Rattle.std.specs.Prelude.{◌≡◌, ℕ, ◌<◌, IfNone, IfOk, IfSome, IsOk, IsSome, None, OnErr, OnOk, Some, false, length, slice_set};
-ghost use Rattle.machine.specs.Transition.{decision_of, transition};
-ghost use Rattle.machine.specs.declared.decision.Decision.TheVariants.{Refused};
-ghost use Rattle.machine.specs.Made.{made_at};
+ghost use Rattle.std.specs.Prelude.{◌≡◌, ◌<◌, IfOk, IfSome, IsOk, IsSome, None, OnErr, OnOk, Some, false, length, slice_set};
+ghost use Rattle.machine.specs.Transition.{decision_of};
 ghost use Rattle.blocks.specs.View.{acts};
-ghost use Rattle.world.specs.Keeping.{has_line};
-ghost use Rattle.world.specs.View.{HasSpaceAt, space_of};
-ghost use Rattle.world.specs.inner.AtBlock.{HasStayed, HasStepped, NeedsNoMemoryAt, Visits};
-ghost use Rattle.world.specs.inner.Holding.{kept_at, state_at, SendsAndWakesNothing, OthersStay};
+ghost use Rattle.world.specs.inner.AtBlock.{ForeseesAt, GetsReady, HasStayed, HasStepped, IsTouched, NeedsNoMemoryAt, Touches, Visits};
+ghost use Rattle.world.specs.inner.Holding.{kept_at, state_at};
 ghost use Rattle.world.specs.inner.Tests.{IsMarked};
 ghost use Rattle.blocks.specs.Marking.{marks_of};
 ghost use Rattle.blocks.specs.Steps.{Stays, BlockNeedsNoMemory};
@@ -40,18 +36,11 @@ fn touch(
     step: Step,
 ) -> Result<Option<Outcome>, NoMemory>
     requires { number < length blocks.old.items }
-    ensures others { OthersStay number blocks.old.items blocks.new.items }
-    ensures state { state_at caches value blocks.new.items number ≡ state_at caches value blocks.old.items number }
-    ensures marked { IsMarked tables.now (kept_at blocks.old.items number) → IsMarked tables.now (kept_at blocks.new.items number) }
-    ensures refused { IfOk result (λ done. IfSome done (λ what.
-        decision_of tables.now step (state_at caches value blocks.old.items number) ≡ Refused what)) }
+    ensures touches { Touches tables.now caches value number step blocks.old.items blocks.new.items }
+    ensures ok { IfOk result (λ done. IsTouched tables.now caches value number step blocks.old.items done blocks.new.items) }
     ensures opened { IfOk result (λ done. IfSome done (λ what. kept_at blocks.old.items number ≡ None)) }
-    ensures kept { IfOk result (λ done. IfNone done (IsSome (kept_at blocks.new.items number))) }
     ensures stays { IsSome (kept_at blocks.old.items number) → kept_at blocks.new.items number ≡ kept_at blocks.old.items number }
     ensures there { IsSome (kept_at blocks.old.items number) → IsOk result }
-    ensures idle { acts (decision_of tables.now step (state_at caches value blocks.old.items number)) ≡ false →
-        kept_at blocks.new.items number ≡ kept_at blocks.old.items number }
-    ensures lines { (cache : ℕ) → has_line (space_of (kept_at blocks.new.items number)) cache ≡ has_line (space_of (kept_at blocks.old.items number)) cache }
     ensures succeeds { acts (decision_of tables.now step (state_at caches value blocks.old.items number)) ≡ false → IsOk result }
 {
     // Looked up as the step does behind it, the block is found once for both.
@@ -75,15 +64,8 @@ fn touch_opened(
 ) -> Result<Option<Outcome>, NoMemory>
     requires below { number < length blocks.old.items }
     requires none { kept_at blocks.old.items number ≡ None }
-    ensures others { OthersStay number blocks.old.items blocks.new.items }
-    ensures state { state_at caches value blocks.new.items number ≡ state_at caches value blocks.old.items number }
-    ensures marked { IsMarked tables.now (kept_at blocks.new.items number) }
-    ensures refused { IfOk result (λ done. IfSome done (λ what.
-        decision_of tables.now step (state_at caches value blocks.old.items number) ≡ Refused what)) }
-    ensures kept { IfOk result (λ done. IfNone done (IsSome (kept_at blocks.new.items number))) }
-    ensures idle { acts (decision_of tables.now step (state_at caches value blocks.old.items number)) ≡ false →
-        kept_at blocks.new.items number ≡ None }
-    ensures lines { (cache : ℕ) → has_line (space_of (kept_at blocks.new.items number)) cache ≡ has_line (space_of (kept_at blocks.old.items number)) cache }
+    ensures touches { Touches tables.now caches value number step blocks.old.items blocks.new.items }
+    ensures ok { IfOk result (λ done. IsTouched tables.now caches value number step blocks.old.items done blocks.new.items) }
     ensures succeeds { acts (decision_of tables.now step (state_at caches value blocks.old.items number)) ≡ false → IsOk result }
 {
     let decision = decide_opened(tables, caches, step);
@@ -217,18 +199,9 @@ pub fn ready_at(
     step: Step,
 ) -> Result<Outcome, NoMemory>
     requires { number < length blocks.old.items }
-    ensures others { OthersStay number blocks.old.items blocks.new.items }
-    ensures marked { IsMarked tables.now (kept_at blocks.old.items number) → IsMarked tables.now (kept_at blocks.new.items number) }
-    ensures state { state_at caches value blocks.new.items number ≡ state_at caches value blocks.old.items number }
-    ensures outcome { IfOk result (λ what. what ≡ (transition tables.now step (state_at caches value blocks.old.items number)).outcome) }
-    ensures room { OnOk result (HasSpaceAt (decision_of tables.now step (state_at caches value blocks.old.items number))
-        (state_at caches value blocks.old.items number) (space_of (kept_at blocks.new.items number))) }
-    ensures succeeds { HasSpaceAt (decision_of tables.now step (state_at caches value blocks.old.items number))
-        (state_at caches value blocks.old.items number) (space_of (kept_at blocks.old.items number)) → IsOk result }
-    ensures idle { acts (decision_of tables.now step (state_at caches value blocks.old.items number)) ≡ false →
-        space_of (kept_at blocks.new.items number) ≡ space_of (kept_at blocks.old.items number) }
-    ensures lines { (cache : ℕ) → has_line (space_of (kept_at blocks.new.items number)) cache ≡ has_line (space_of (kept_at blocks.old.items number)) cache }
-    ensures light { SendsAndWakesNothing tables.now step (state_at caches value blocks.old.items number) → IsOk result }
+    ensures ok { IfOk result (λ what. ForeseesAt tables.now caches value number step blocks.old.items what blocks.new.items) }
+    ensures kept { GetsReady tables.now caches value number step blocks.old.items blocks.new.items }
+    ensures succeeds { NeedsNoMemoryAt tables.now caches value number step blocks.old.items → IsOk result }
 {
     if let Some(outcome) = touch(alloc, blocks, caches, value, number, tables, step)? {
         return Ok(outcome);

@@ -1,5 +1,5 @@
-ghost use Rattle.std.specs.Prelude.{◌≡◌, ◌<◌, ◌≤◌, ◌^◌, IfNone, IfOk, IfSome, length, replicate, slice_index_or, slice_set};
-ghost use Rattle.world.specs.inner.Counts.{all_in, row_of_kind, FallsAt};
+ghost use Rattle.std.specs.Prelude.{◌≡◌, ◌<◌, ◌≤◌, ◌^◌, IfNone, IfOk, IfSome, length, slice_index_or, slice_set};
+ghost use Rattle.world.specs.inner.Counts.{FallsAt, all_in, none_counted, row_of_kind, with_counts};
 
 use base::NoMemory;
 use rows::{KthPlace, Sums};
@@ -49,9 +49,7 @@ impl Counts {
     /// Counts of so many blocks, of which none has anything to deliver.
     pub fn open(alloc: Global, blocks: u32) -> Result<Counts, NoMemory>
         requires { blocks ≤ 65536 }
-        ensures requests { IfOk result (λ counts. counts.requests ≡ replicate blocks 0) }
-        ensures heads { IfOk result (λ counts. counts.heads ≡ replicate blocks 0) }
-        ensures responses { IfOk result (λ counts. counts.responses ≡ replicate blocks 0) }
+        ensures { IfOk result (λ counts. counts ≡ none_counted blocks) }
     {
         let requests = Sums::open(alloc, blocks)?;
         let heads = Sums::open(alloc, blocks)?;
@@ -65,9 +63,7 @@ impl Counts {
 
     /// No block has anything to deliver from now on.
     pub fn clear(&mut self)
-        ensures requests { self.new.requests ≡ replicate (length self.old.requests) 0 }
-        ensures heads { self.new.heads ≡ replicate (length self.old.requests) 0 }
-        ensures responses { self.new.responses ≡ replicate (length self.old.requests) 0 }
+        ensures { self.new ≡ none_counted (length self.old.requests) }
     {
         self.requests.clear();
         self.heads.clear();
@@ -92,9 +88,7 @@ impl Counts {
     #[inline(always)]
     pub fn set(&mut self, number: u32, requests: u32, heads: u32, responses: u32)
         requires { number < length self.old.requests }
-        ensures requests { self.new.requests ≡ slice_set self.old.requests number requests }
-        ensures heads { self.new.heads ≡ slice_set self.old.heads number heads }
-        ensures responses { self.new.responses ≡ slice_set self.old.responses number responses }
+        ensures { self.new ≡ with_counts number requests heads responses self.old }
     {
         let at = number as usize;
         change(&mut self.requests, at, requests);

@@ -57,7 +57,7 @@ impl World {
     pub fn enabled_count_of(&self, kind: DeliveryKind, block: BlockId) -> u32
         ensures { result ≡ length (enabled_at_block self.now.tables kind self.now.state block) }
     {
-        // A look at a field brings in what holds of every world.
+        // The counts are those of the state, whatever the world has done.
         let _ = &self.blocks;
         self.counts.of_block(kind, block.0)
     }
@@ -67,7 +67,7 @@ impl World {
     pub fn enabled_of(&self, kind: DeliveryKind, block: BlockId, k: u32) -> Option<Step>
         ensures { result ≡ slice_get (enabled_at_block self.now.tables kind self.now.state block) k }
     {
-        // A look at a field brings in what holds of every world.
+        // The counts are those of the state, whatever the world has done.
         let _ = &self.counts;
         let spot = Spot {
             kind,

@@ -48,7 +48,7 @@ impl World {
         ensures line { result ≡ line_at self.now.state cache.0 block.0 }
         ensures there { IsSome result ↔ ((cache.0 < self.now.shape.caches) × (block.0 < self.now.shape.blocks)) }
     {
-        // A look at a field brings in what holds of every world.
+        // Each block of the shape has a line for each cache.
         let _ = &self.blocks;
         self.find_line(cache, block)
     }

@@ -11,36 +11,28 @@ pub struct RunStop {
 
 impl World {
     ghost use Rattle.std.specs.Prelude.{◌≡◌, ◌<◌, ◌≤◌, ◌⊎◌, IfErr, OnOk, length, take, vec_capacity};
-    ghost use Rattle.world.specs.Coherent.{HasBeenSafe, IsUnstuck};
     ghost use Rattle.world.specs.Keeping.{KeepsOthers};
-    ghost use Rattle.world.specs.View.{LeadsOn};
-    ghost use Rattle.world.specs.Runs.{IsRun, FoundNoMemory};
+    ghost use Rattle.world.specs.Runs.{FoundNoMemory, IsRun, RunsSafely, StopsSafely};
 
     /// Makes these steps, and appends an outcome for each.
     ///
     /// Where memory is refused exactly the first `done` steps stand, and their outcomes are appended. That is so only where `outcomes`
     /// is full, or where the step behind them wants memory: so a run never stops at a step that [`step`](World::step) is never refused.
     pub fn run(&mut self, steps: &[Step], outcomes: &mut Vec<Outcome>) -> Result<(), RunStop>
-        ensures ok { OnOk result (IsRun self.old steps.now outcomes.old.items self.new outcomes.new.items) }
-        ensures err { IfErr result (λ stop. IsRun self.old (take stop.done steps.now) outcomes.old.items self.new outcomes.new.items) }
-        ensures done { IfErr result (λ stop. stop.done < length steps.now) }
+        ensures ok { OnOk result (RunsSafely self.old steps.now outcomes.old.items self.new outcomes.new.items) }
+        ensures err { IfErr result (λ stop. StopsSafely self.old steps.now stop.done outcomes.old.items self.new outcomes.new.items) }
         ensures wanted { IfErr result (λ stop.
             (vec_capacity outcomes.new ≤ length outcomes.new.items) ⊎ FoundNoMemory self.old steps.now stop.done self.new) }
-        ensures keeps { KeepsOthers self.old steps.now self.new }
-        ensures history { OnOk result (LeadsOn self.old steps.now self.new) }
-        ensures history_so_far { IfErr result (λ stop. LeadsOn self.old (take stop.done steps.now) self.new) }
-        ensures safe { HasBeenSafe self.new }
-        ensures unstuck { IsUnstuck self.new }
     {
-        // A look at a field brings in what holds of every world.
+        // The shape is within the limits, as that of every world.
         let _ = &self.shape;
         self.advance_all(steps, outcomes)
     }
 
     fn advance_all(&mut self, steps: &[Step], outcomes: &mut Vec<Outcome>) -> Result<(), RunStop>
         ensures ok { OnOk result (IsRun self.old steps.now outcomes.old.items self.new outcomes.new.items) }
-        ensures err { IfErr result (λ stop. IsRun self.old (take stop.done steps.now) outcomes.old.items self.new outcomes.new.items) }
-        ensures done { IfErr result (λ stop. stop.done < length steps.now) }
+        ensures err { IfErr result (λ stop.
+            (stop.done < length steps.now) × IsRun self.old (take stop.done steps.now) outcomes.old.items self.new outcomes.new.items) }
         ensures wanted { IfErr result (λ stop.
             (vec_capacity outcomes.new ≤ length outcomes.new.items) ⊎ FoundNoMemory self.old steps.now stop.done self.new) }
         ensures keeps { KeepsOthers self.old steps.now self.new }

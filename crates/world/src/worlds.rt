@@ -55,7 +55,7 @@ pub struct World {
 
 impl Drop for World {
     fn drop(self) {
-        // Whoever drops one has a call to prove, and not the drops of all its parts.
+        // One call drops all its parts.
         let World {
             alloc: _,
             shape: _,
@@ -91,14 +91,9 @@ impl Model for World {
 }
 
 impl World {
-    ghost use Rattle.std.specs.Prelude.{◌≡◌, ◌≢◌, ◌↔◌, ◌≤◌, ◌∷◌, [], None, false, true, IfOk, IsOk, IsErrOf, OnErr, OnOk, length, replicate};
-    ghost use Rattle.base.specs.Steps.{block_of};
-    ghost use Rattle.machine.specs.Machine.{IsHistory, next, opened, sent_by};
-    ghost use Rattle.world.specs.Coherent.{HasBeenSafe, IsUnstuck};
-    ghost use Rattle.world.specs.Keeping.{KeepsAsIs, KeepsNoOther, KeepsSameLines};
-    ghost use Rattle.world.specs.Messages.{messages_at, raised};
-    ghost use Rattle.world.specs.OneStep.{Steps, IsAsBefore, NeedsNoMemory};
-    ghost use Rattle.world.specs.View.{HasRoomToStep, LeadsOn, stepped, wakes};
+    ghost use Rattle.std.specs.Prelude.{◌≡◌, ◌≢◌, ◌↔◌, IfOk, IsOk, IsErrOf, OnErr, length};
+    ghost use Rattle.world.specs.Again.{IsSameAgain, OpensWorld};
+    ghost use Rattle.world.specs.OneStep.{ForeseesStep, IsAsBefore, NeedsNoMemory, StaysSafely, Steps, StepsSafely};
     ghost use Rattle.world.specs.declared.worlds.OpenFault.TheVariants as fault;
 
     /// A world that nothing has happened to: all lines and homes are in I, nothing is on the wires,
@@ -111,15 +106,7 @@ impl World {
         tables: Tables,
         opening: Vec<u64>,
     ) -> Result<World, OpenFault>
-        ensures shape { IfOk result (λ world. world.shape ≡ shape) }
-        ensures tables { IfOk result (λ world. world.tables ≡ tables) }
-        ensures opening { IfOk result (λ world. world.opening ≡ opening.items) }
-        ensures state { IfOk result (λ world. world.state ≡ opened shape opening.items) }
-        ensures history { IfOk result (λ world. IsHistory world.shape world.tables opening.items [] world.state) }
-        ensures safe { IfOk result HasBeenSafe }
-        ensures unstuck { IfOk result IsUnstuck }
-        ensures tested { IfOk result (λ world. world.tested ≡ 0) }
-        ensures none_kept { IfOk result (λ world. world.spaces ≡ replicate shape.blocks None) }
+        ensures opened { IfOk result (OpensWorld shape tables opening.items) }
         ensures opening_length { IsErrOf result fault.OpeningLength ↔ (length opening.items ≢ shape.blocks) }
     {
         if opening.len() != shape.blocks() as usize {
@@ -150,22 +137,11 @@ impl World {
     /// A step that sends no message is never refused, but for an ask that acts at a line in I: so no step that is held,
     /// absent, idle, blank or broken, no hit at a line that isn't in I, and no delivery whose cell sends nothing.
     pub fn step(&mut self, step: Step) -> Result<Outcome, NoMemory>
-        ensures ok { IfOk result (λ what. next self.old.tables self.old.state step ≡ stepped self.new.state what) }
-        ensures history { OnOk result (LeadsOn self.old (step ∷ []) self.new) }
-        ensures safe { HasBeenSafe self.new }
-        ensures unstuck { IsUnstuck self.new }
-        ensures shape { self.new.shape ≡ self.old.shape }
-        ensures tables { self.new.tables ≡ self.old.tables }
-        ensures opening { self.new.opening ≡ self.old.opening }
-        ensures err { OnErr result (self.new.state ≡ self.old.state) }
-        ensures tests_what_it_sends { OnOk result (raised self.old.tested (length (sent_by self.old.tables self.old.state step)) ≤ self.new.tested) }
-        ensures tests_its_block { OnOk result (self.new.tested ≤ raised self.old.tested (messages_at self.new.state (block_of step))) }
-        ensures err_tested { OnErr result (self.new.tested ≡ self.old.tested) }
-        ensures keeps { KeepsAsIs self.old step self.new }
-        ensures succeeds { HasRoomToStep self.old step → IsOk result }
-        ensures sends_nothing { sent_by self.old.tables self.old.state step ≡ [] → wakes self.old step ≡ false → IsOk result }
+        ensures ok { IfOk result (λ what. StepsSafely self.old step what self.new) }
+        ensures err { OnErr result (StaysSafely self.old step self.new) }
+        ensures succeeds { NeedsNoMemory self.old step → IsOk result }
     {
-        // A look at a field brings in what holds of every world.
+        // The shape is within the limits, as that of every world.
         let _ = &self.shape;
         let made = self.make(step)?;
         Ok(made.outcome)
@@ -204,16 +180,9 @@ impl World {
     ///
     /// The same step directly after it succeeds.
     pub fn ready(&mut self, step: Step) -> Result<Outcome, NoMemory>
-        ensures outcome { IfOk result (λ what. what ≡ (next self.old.tables self.old.state step).outcome) }
-        ensures room { OnOk result (HasRoomToStep self.new step) }
-        ensures shape { self.new.shape ≡ self.old.shape }
-        ensures tables { self.new.tables ≡ self.old.tables }
-        ensures opening { self.new.opening ≡ self.old.opening }
-        ensures state { self.new.state ≡ self.old.state }
-        ensures tested { self.new.tested ≡ self.old.tested }
-        ensures keeps { KeepsAsIs self.old step self.new }
-        ensures succeeds { HasRoomToStep self.old step → IsOk result }
-        ensures sends_nothing { sent_by self.old.tables self.old.state step ≡ [] → wakes self.old step ≡ false → IsOk result }
+        ensures ok { IfOk result (λ what. ForeseesStep self.old step what self.new) }
+        ensures kept { IsAsBefore self.old step self.new }
+        ensures succeeds { NeedsNoMemory self.old step → IsOk result }
     {
         if self.met_blank {
             return Ok(Outcome::Broken);
@@ -236,13 +205,7 @@ impl World {
     /// The same world again: its shape, its tables, its opening values, its state, and how many messages were tested. It keeps no
     /// block but those that this one keeps, and the same lines.
     pub fn try_clone(&self, alloc: Global) -> Result<World, NoMemory>
-        ensures shape { IfOk result (λ world. world.shape ≡ self.now.shape) }
-        ensures tables { IfOk result (λ world. world.tables ≡ self.now.tables) }
-        ensures opening { IfOk result (λ world. world.opening ≡ self.now.opening) }
-        ensures state { IfOk result (λ world. world.state ≡ self.now.state) }
-        ensures tested { IfOk result (λ world. world.tested ≡ self.now.tested) }
-        ensures kept { IfOk result (KeepsNoOther self.now) }
-        ensures lines { IfOk result (KeepsSameLines self.now) }
+        ensures { IfOk result (IsSameAgain self.now) }
     {
         let opening = Vec::from_slice(alloc, self.opening.as_slice())?;
         let blocks = self.blocks.try_clone(alloc)?;

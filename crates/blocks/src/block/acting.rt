@@ -1,12 +1,12 @@
-ghost use Rattle.std.specs.Prelude.{◌≡◌, ◌<◌, Some, [], false, length, slice_get, slice_set, take};
-ghost use Rattle.network.specs.Traffic.{all_sent};
+ghost use Rattle.std.specs.Prelude.{◌≡◌, ◌<◌, Some, [], false, length, slice_get};
 ghost use Rattle.network.specs.Room.{HasRoomFor, UsesRoomFor};
-ghost use Rattle.control.specs.LineEffect.{line_after, line_completes, line_sends, opened_line};
+ghost use Rattle.control.specs.LineEffect.{line_sends, opened_line};
 ghost use Rattle.machine.specs.Transition.{outcome_of, plain_outcome, latest_after, without, IsThere};
 ghost use Rattle.rows.specs.Flags.{is_set};
 ghost use Rattle.blocks.specs.View.{wakes_line};
 ghost use Rattle.blocks.specs.inner.Lined.{kept_lines, lines_of};
 ghost use Rattle.blocks.specs.inner.Linking.{IsOwn, IsRelinked};
+ghost use Rattle.blocks.specs.inner.Performing.{ActsAtLine};
 ghost use Rattle.machine.specs.Made.{acted_by};
 ghost use Rattle.base.specs.declared.ids.CacheId.{CacheId};
 
@@ -222,7 +222,7 @@ fn wakes(decision: &Decision) -> bool
 }
 
 /// Lets an input act at the line of a cache, where it lies. A line that isn't kept is from now on.
-// (The line as it was is handed in for the contract alone.)
+// (`line` is the line as it was.)
 #[inline(always)]
 fn perform(
     lines: &mut Sparse<Line>,
@@ -236,11 +236,7 @@ fn perform(
     requires line { Some line ≡ slice_get (lines_of lines.old.items) cache.0 }
     requires place { is_set (kept_lines lines.old.items) cache.0 ≡ false → 0 < lines.old.spare }
     requires room { HasRoomFor (line_sends cache input actions line) wires.old.room }
-    ensures done { result ≡ line_completes input next line }
-    ensures items { lines.new.items ≡ slice_set lines.old.items cache.0 (Some (line_after input next line)) }
-    ensures traffic { wires.new.traffic ≡ all_sent (line_sends cache input actions line) wires.old.traffic }
-    ensures links { wires.new.marks.links ≡ wires.old.marks.links }
-    ensures requests { take (length wires.old.marks.requests) wires.new.marks.requests ≡ wires.old.marks.requests }
+    ensures { ActsAtLine cache input next actions line lines.old.items wires.old result lines.new.items wires.new }
 {
     if let Some(kept) = lines.get_mut(cache.0) {
         return line_perform(kept, cache, input, next, actions, wires);
@@ -261,11 +257,7 @@ fn perform_at_first(
     requires below { cache.0 < length lines.old.items }
     requires place { 0 < lines.old.spare }
     requires room { HasRoomFor (line_sends cache input actions opened_line) wires.old.room }
-    ensures done { result ≡ line_completes input next opened_line }
-    ensures items { lines.new.items ≡ slice_set lines.old.items cache.0 (Some (line_after input next opened_line)) }
-    ensures traffic { wires.new.traffic ≡ all_sent (line_sends cache input actions opened_line) wires.old.traffic }
-    ensures links { wires.new.marks.links ≡ wires.old.marks.links }
-    ensures requests { take (length wires.old.marks.requests) wires.new.marks.requests ≡ wires.old.marks.requests }
+    ensures { ActsAtLine cache input next actions opened_line lines.old.items wires.old result lines.new.items wires.new }
 {
     let done = perform_first(lines, cache, input, next, actions, wires)?;
     Some(done)
@@ -285,11 +277,7 @@ fn perform_first(
     requires below { cache.0 < length lines.old.items }
     requires place { 0 < lines.old.spare }
     requires room { HasRoomFor (line_sends cache input actions opened_line) wires.old.room }
-    ensures done { result ≡ line_completes input next opened_line }
-    ensures items { lines.new.items ≡ slice_set lines.old.items cache.0 (Some (line_after input next opened_line)) }
-    ensures traffic { wires.new.traffic ≡ all_sent (line_sends cache input actions opened_line) wires.old.traffic }
-    ensures links { wires.new.marks.links ≡ wires.old.marks.links }
-    ensures requests { take (length wires.old.marks.requests) wires.new.marks.requests ≡ wires.old.marks.requests }
+    ensures { ActsAtLine cache input next actions opened_line lines.old.items wires.old result lines.new.items wires.new }
 {
     let mut line = Line::opened();
     let done = line_perform(&mut line, cache, input, next, actions, wires);

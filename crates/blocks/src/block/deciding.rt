@@ -179,7 +179,7 @@ impl Block {
         ensures among { IsBlockAmong (length self.now.state.lines) self.now.state }
         ensures line { IsAboutLine self.now.state.lines result }
     {
-        // A look at a field brings in what holds of every block.
+        // Nobody but the caches of the block is named in it.
         let _ = &self.lines;
         served.decision(self, tables)
     }

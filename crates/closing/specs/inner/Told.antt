@@ -35,6 +35,14 @@ TellsAll tables p told = (rule : Rule) (guess : Bool) → IsTold told rule (sigh
 abbrev pub LeadsInto : List RankedPair → RankedPair → Followed → Type 0
 LeadsInto list r f = LeadsTo list f.concerned (ranked f.after (order_after f.rule r.order))
 
+-- so do all of these steps
+abbrev pub AllLeadInto : List RankedPair → RankedPair → List Followed → Type 0
+AllLeadInto list r steps = (k : ℕ) (f : Followed) → slice_get steps k ≡ Some f → LeadsInto list r f
+
+-- all of the first are among the second
+abbrev pub AreAmong : List Followed → List Followed → Type 0
+AreAmong steps all = (f : Followed) → Contains steps f → Contains all f
+
 -- two steps may be one, as two pairs of its actor see it
 abbrev pub AreOne : Followed → Followed → Type 0
 AreOne f g = (f.rule ≡ g.rule) × (f.after.shared ≡ g.after.shared) × (f.after.first ≡ g.after.first)
@@ -54,6 +62,11 @@ Glues list q r f g =
 abbrev pub GluesOver : List RankedPair → List ℕ → Span → ℕ → RankedPair → Followed → Followed → Type 0
 GluesOver list seconds span second q f g =
     (l : ℕ) (r : RankedPair) → span.begin ≤ l → l < span.end → slice_get seconds l ≡ Some second → slice_get list l ≡ Some r → Glues list q r f g
+
+-- all of these do with the first, which are one with it
+abbrev pub AllGlueOver : List RankedPair → List ℕ → Span → ℕ → RankedPair → Followed → List Followed → Type 0
+AllGlueOver list seconds span second q f theirs =
+    (n : ℕ) (g : Followed) → slice_get theirs n ≡ Some g → AreOne f g → GluesOver list seconds span second q f g
 
 -- all that are one do
 abbrev pub GlueTogether : List RankedPair → List ℕ → Span → ℕ → RankedPair → List Followed → List Followed → Type 0
@@ -84,13 +97,21 @@ Stays list r (Spoilt Third) = Unit {0}
 Stays list r (Spoilt concerned) = ⊥
 Stays list r (Seen concerned q) = LeadsTo list concerned (ranked q r.order)
 
+-- so it is whatever a third cache shares
+abbrev pub HomeStays : Tables → List RankedPair → RankedPair → Type 0
+HomeStays tables list r = (third_shares : Bool) → Stays list r (home_data_seen tables third_shares r.pair)
+
+-- the first cache isn't a writer beside a reader
+abbrev pub IsSingle : Pair → Type 0
+IsSingle p = is_writer p.first.state ≡ true → is_reader p.second.state ≡ false
+
 -- each is followed, stands here in the other order too, has no writer beside a reader, and stays where Data comes to the home
 pub record IsSound (tables : Tables) (list : List RankedPair) (r : RankedPair) : Type 0 where
   pub few : is_few r.pair ≡ true
   pub marked : IsMarked r.pair
   pub turned : Contains list (turned_pair r)
-  pub single : is_writer r.pair.first.state ≡ true → is_reader r.pair.second.state ≡ false
-  pub home_data : (t : Bool) → Stays list r (home_data_seen tables t r.pair)
+  pub single : IsSingle r.pair
+  pub home_data : HomeStays tables list r
 
 abbrev pub AreSound : Tables → List RankedPair → Type 0
 AreSound tables list = (k : ℕ) (r : RankedPair) → slice_get list k ≡ Some r → IsSound tables list r
@@ -98,7 +119,7 @@ AreSound tables list = (k : ℕ) (r : RankedPair) → slice_get list k ≡ Some 
 -- the steps of a ranked pair are told, and lead to these
 pub record IsFollowedBy (tables : Tables) (list : List RankedPair) (r : RankedPair) (steps : List Followed) : Type 0 where
   pub told : TellsAll tables r.pair steps
-  pub leads : (k : ℕ) (f : Followed) → slice_get steps k ≡ Some f → LeadsInto list r f
+  pub leads : AllLeadInto list r steps
 
 abbrev pub AreTold : Tables → List RankedPair → List (Vec Followed) → Type 0
 AreTold tables list steps =
@@ -115,10 +136,18 @@ abbrev pub KeepsBalanceIn : Pair → Sight → Type 0
 KeepsBalanceIn p (Seen concerned q) = KeepsBalance concerned p q
 KeepsBalanceIn p other = Unit {0}
 
--- so do these steps of a pair
+-- it does whatever a third cache shares
+abbrev pub HomeKeepsBalance : Tables → Pair → Type 0
+HomeKeepsBalance tables p = (third_shares : Bool) → KeepsBalanceIn p (home_data_seen tables third_shares p)
+
+-- all of these steps do
+abbrev pub AllKeepBalance : Pair → List Followed → Type 0
+AllKeepBalance p steps = (k : ℕ) (f : Followed) → slice_get steps k ≡ Some f → KeepsBalance f.concerned p f.after
+
+-- both do of a pair
 pub record IsBalanced (tables : Tables) (p : Pair) (told : List Followed) : Type 0 where
-  pub steps : (k : ℕ) (f : Followed) → slice_get told k ≡ Some f → KeepsBalance f.concerned p f.after
-  pub home_data : (t : Bool) → KeepsBalanceIn p (home_data_seen tables t p)
+  pub steps : AllKeepBalance p told
+  pub home_data : HomeKeepsBalance tables p
 
 abbrev pub AreBalanced : Tables → List RankedPair → List (Vec Followed) → Type 0
 AreBalanced tables list steps =

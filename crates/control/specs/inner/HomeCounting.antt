@@ -1,7 +1,8 @@
 use Rattle.std.specs.Prelude.{◌≡◌, ◌≢◌, ◌≤◌, ℕ, zero, suc, ◌+◌, length, slice_index, List, [], ◌∷◌, ◌++◌, replicate}
-use Rattle.std.specs.Prelude.{Option, Some, None, Bool, true, false, not, ◌&&◌, ◌||◌, ◌==◌, nat_lt, if◌then◌else◌}
+use Rattle.std.specs.Prelude.{Option, Some, None, Bool, true, false, not, ◌&&◌, ◌||◌, ◌==◌, nat_lt, if◌then◌else◌, IsOk, OnOk}
+use Rattle.std.specs.declared.result.Result.{Result}
 use Rattle.base.specs.declared.ids.CacheId.{CacheId}
-use Rattle.network.specs.Room.{Room, one_if}
+use Rattle.network.specs.Room.{Room, UsesRoomFor, Wiring, one_if}
 use Rattle.directory_table.specs.declared.actions.DirectoryAction.{DirectoryAction}
 use Rattle.directory_table.specs.declared.actions.DirectoryAction.TheVariants as action
 use Rattle.control.specs.declared.home.Home.{Home}
@@ -104,6 +105,16 @@ HasRoomToSharers from actions home room =
 pub record HasRoomToReply (from : CacheId) (actions : List DirectoryAction) (home : Home) (room : Room) : Type 0 where
   pub responses : replies_by actions ≤ room.responses
   pub links : (k : ℕ) → HasRoomOnLink k from actions home room
+
+-- there is room on the link to each sharer that is neither the owner nor the sender, unless that was refused, which it isn't where there is
+-- room on all links; no list has changed
+pub record MakesRoomToSharers {T E : Type 0} (from : CacheId) (actions : List DirectoryAction) (home : Home) (result : Result T E)
+    (old new : Wiring) : Type 0 where
+  pub traffic : new.traffic ≡ old.traffic
+  pub marks : new.marks ≡ old.marks
+  pub ok : OnOk result (HasRoomToSharers from actions home new.room)
+  pub succeeds : ((k : ℕ) → HasRoomOnLink k from actions home old.room) → IsOk result
+  pub room : UsesRoomFor [] old.room new.room
 
 -- the link to a cache, as often as the actions put a message on it
 abbrev pub links_to : CacheId → CacheId → List DirectoryAction → Home → List CacheId

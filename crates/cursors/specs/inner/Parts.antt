@@ -1,6 +1,6 @@
 -- For private clauses: the parts that a cursor has, and how far it comes by an offer.
 use Rattle.std.specs.Prelude.{◌≡◌, ◌≤◌, ◌<◌, ◌+◌, ℕ, zero, suc, List, [], ◌∷◌, length, take, map}
-use Rattle.std.specs.Prelude.{Some, IfSome, slice_get, slice_set}
+use Rattle.std.specs.Prelude.{Result, MatchResult, Some, IfSome, slice_get, slice_set}
 use Rattle.std.specs.Prelude as std
 use Rattle.scenario.specs.Tree.{Tree, Trees, plain, plain_all, trees_of}
 use Rattle.scenario.specs.Tree as tree
@@ -68,6 +68,10 @@ highest (p ∷ ps) = std.max (height p) (highest ps)
 -- offer i of a tree is taken: what is left is the same but for rows of one child, and these parts at most are wanted
 abbrev pub MovesTo : Tree → ℕ → Stock → Progress → Type 0
 MovesTo t i most new = (flat (tree_left new) ≡ flat (rest t i)) × Within (wants new) most
+
+-- offer i is taken, where this is how the call ended; else the part is as far as it was
+abbrev pub MovesBy : {A B T E : Type 0} → Tree → ℕ → Stock → Result T E → Part A B → Part A B → Type 0
+MovesBy t i most result old new = MatchResult result (λ _. MovesTo t i most (progress new)) (λ _. progress new ≡ progress old)
 
 -- part k is taken into use for a tree, of which offer i is taken. The other parts stay as they were
 abbrev pub Begins : List Progress → ℕ → Tree → ℕ → List Progress → Type 0

@@ -1,10 +1,10 @@
 //! Beginning a tree in the memory that a part has. Growths come on the way down to the offer, where they change nothing
 //! that means anything, and changes on the way back.
 
-ghost use Rattle.std.specs.Prelude.{◌≡◌, ◌<◌, ◌≤◌, OnErr, OnOk, length, map};
+ghost use Rattle.std.specs.Prelude.{◌≡◌, ◌<◌, ◌≤◌, MatchResult, OnOk, length, map};
 ghost use Rattle.cursors.specs.Cursors.{progress};
 ghost use Rattle.cursors.specs.Stock.{Empty, With, room, room_in_turn, room_of_all, stock};
-ghost use Rattle.cursors.specs.inner.Parts.{Adds, AddsBoth, BeginsAmong, Grows, IsWholeBut, MovesTo, at_place, bare, holding, parts_of, place_of};
+ghost use Rattle.cursors.specs.inner.Parts.{Adds, AddsBoth, BeginsAmong, Grows, IsWholeBut, MovesBy, at_place, bare, holding, parts_of, place_of};
 ghost use Rattle.scenario.specs.Taking.{offers, offers_in_turn, offers_of_all};
 ghost use Rattle.scenario.specs.Tree as tree;
 ghost use Rattle.scenario.specs.Tree.{plain, plain_all};
@@ -26,8 +26,7 @@ pub(super) fn start<'t, A: Allocator, B: Allocator + Clone>(
     at: usize,
 ) -> Result<(), NoMemory>
     requires { at < length (offers (plain tree.now)) }
-    ensures ok { OnOk result (MovesTo (plain tree.now) at (room (plain tree.now)) (progress part.new)) }
-    ensures err { OnErr result (progress part.new ≡ progress part.old) }
+    ensures moves { MovesBy (plain tree.now) at (room (plain tree.now)) result part.old part.new }
     ensures held { Adds (stock part.old) (room (plain tree.now)) (stock part.new) }
 {
     match tree {
@@ -55,8 +54,8 @@ pub(super) fn start_row<'t, A: Allocator, B: Allocator + Clone>(
     at: usize,
 ) -> Result<(), NoMemory>
     requires { at < length (offers_in_turn (plain_all children.now)) }
-    ensures ok { OnOk result (MovesTo (tree.Seq (plain_all children.now)) at (room_in_turn (plain_all children.now)) (progress part.new)) }
-    ensures err { OnErr result (progress part.new ≡ progress part.old) }
+    ensures moves { MovesBy (tree.Seq (plain_all children.now)) at (room_in_turn (plain_all children.now))
+        result part.old part.new }
     ensures held { Adds (stock part.old) (room_in_turn (plain_all children.now)) (stock part.new) }
 {
     let offer = place_in_turn(children, at);
@@ -77,8 +76,8 @@ pub(super) fn start_turn<'t, A: Allocator, B: Allocator + Clone>(
 ) -> Result<(), NoMemory>
     requires turns { 0 < turns }
     requires offer { at < length (offers (plain child.now)) }
-    ensures ok { OnOk result (MovesTo (tree.Times turns (plain child.now)) at (With (room (plain child.now)) Empty) (progress part.new)) }
-    ensures err { OnErr result (progress part.new ≡ progress part.old) }
+    ensures moves { MovesBy (tree.Times turns (plain child.now)) at (With (room (plain child.now)) Empty)
+        result part.old part.new }
     ensures held { Adds (stock part.old) (With (room (plain child.now)) Empty) (stock part.new) }
 {
     start_part(part, 1, 0, child, alloc, at)?;
@@ -96,8 +95,8 @@ fn start_both<'t, A: Allocator, B: Allocator + Clone>(
     at: usize,
 ) -> Result<(), NoMemory>
     requires { at < length (offers_of_all (plain_all children.now)) }
-    ensures ok { OnOk result (MovesTo (tree.Both (plain_all children.now)) at (room_of_all (plain_all children.now)) (progress part.new)) }
-    ensures err { OnErr result (progress part.new ≡ progress part.old) }
+    ensures moves { MovesBy (tree.Both (plain_all children.now)) at (room_of_all (plain_all children.now))
+        result part.old part.new }
     ensures held { Adds (stock part.old) (room_of_all (plain_all children.now)) (stock part.new) }
 {
     let offer = place_among(children, at);
@@ -127,8 +126,8 @@ fn start_part<'t, A: Allocator, B: Allocator + Clone>(
 ) -> Result<(), NoMemory>
     requires part { number < count }
     requires offer { at < length (offers (plain tree.now)) }
-    ensures ok { OnOk result (BeginsAmong count number (plain tree.now) at (parts_of part.new)) }
-    ensures err { OnErr result (progress part.new ≡ progress part.old) }
+    ensures moves { MatchResult result (λ _. BeginsAmong count number (plain tree.now) at (parts_of part.new))
+        (λ _. progress part.new ≡ progress part.old) }
     ensures held { AddsBoth (stock part.old) (bare count) (at_place number (room (plain tree.now))) (stock part.new) }
 {
     make_room(part, alloc, count)?;

@@ -1,8 +1,8 @@
 //! Taking an offer of what is left.
 
-ghost use Rattle.std.specs.Prelude.{◌≡◌, ◌<◌, OnErr, OnOk, length};
+ghost use Rattle.std.specs.Prelude.{◌≡◌, ◌<◌, MatchResult, length};
 ghost use Rattle.cursors.specs.Cursors.{progress};
-ghost use Rattle.cursors.specs.inner.Parts.{Adds, MovesPart, MovesTo, OffersAt, behind, part_left, parts_of, place_of, wants_at, wants_behind};
+ghost use Rattle.cursors.specs.inner.Parts.{Adds, MovesPart, MovesBy, OffersAt, behind, part_left, parts_of, place_of, wants_at, wants_behind};
 ghost use Rattle.cursors.specs.Stock.{stock, wants};
 ghost use Rattle.scenario.specs.Taking.{offers};
 
@@ -21,8 +21,7 @@ pub(crate) fn take_from<A: Allocator, B: Allocator + Clone>(
     at: usize,
 ) -> Result<(), NoMemory>
     requires { at < length (offers (part_left part.old)) }
-    ensures ok { OnOk result (MovesTo (part_left part.old) at (wants (progress part.old)) (progress part.new)) }
-    ensures err { OnErr result (progress part.new ≡ progress part.old) }
+    ensures moves { MovesBy (part_left part.old) at (wants (progress part.old)) result part.old part.new }
     ensures held { Adds (stock part.old) (wants (progress part.old)) (stock part.new) }
 {
     match find_among(part.in_use(), at) {
@@ -42,8 +41,8 @@ fn take_from_part<A: Allocator, B: Allocator + Clone>(
 ) -> Result<(), NoMemory>
     requires { OffersAt (parts_of part.old) number at }
     ensures place { place_of part.new ≡ place_of part.old }
-    ensures ok { OnOk result (MovesPart (parts_of part.old) number at (parts_of part.new)) }
-    ensures err { OnErr result (progress part.new ≡ progress part.old) }
+    ensures moves { MatchResult result (λ _. MovesPart (parts_of part.old) number at (parts_of part.new))
+        (λ _. progress part.new ≡ progress part.old) }
     ensures held { Adds (stock part.old) (wants_at (parts_of part.old) number) (stock part.new) }
 {
     match part {
@@ -60,8 +59,7 @@ fn go_on<A: Allocator, B: Allocator + Clone>(
     at: usize,
 ) -> Result<(), NoMemory>
     requires { at < length (offers (behind (place_of part.old))) }
-    ensures ok { OnOk result (MovesTo (behind (place_of part.old)) at (wants_behind (place_of part.old)) (progress part.new)) }
-    ensures err { OnErr result (progress part.new ≡ progress part.old) }
+    ensures moves { MovesBy (behind (place_of part.old)) at (wants_behind (place_of part.old)) result part.old part.new }
     ensures held { Adds (stock part.old) (wants_behind (place_of part.old)) (stock part.new) }
 {
     match part.place() {

@@ -1,5 +1,5 @@
 -- What a desk and a seat keep, and what the close has put together so far. For private clauses.
-use Rattle.std.specs.Prelude.{◌≡◌, ℕ, ◌<◌, ◌≤◌, nat_lt, List, [], length, slice_index_or, slice_get, Bool, true, false, Option, Some, None}
+use Rattle.std.specs.Prelude.{◌≡◌, ℕ, ◌<◌, nat_lt, List, [], length, slice_index_or, slice_get, Bool, true, false, Option, Some, None}
 use Rattle.std.specs.List.Sorted.{IsStrictlyIncreasing}
 use Rattle.atomic_table.specs.Table.{Me}
 use Rattle.atomic_table.specs.Seated.{TableId}
@@ -12,6 +12,7 @@ use Rattle.trials.specs.Terms.{Plan}
 use Rattle.desk.specs.Plans.{IsResultOf}
 use Rattle.desk.specs.Counting.{times}
 use Rattle.desk.specs.Seats.{DeskSeatView, HasPosted, Knows}
+use Rattle.desk.specs.Opening.{AreWithinLimits}
 use Rattle.desk.specs.Closing.{IsPlace}
 
 -- whether a number at this stage is claimed
@@ -31,9 +32,7 @@ pub record IsDesk (plan mine : Plan) (table : TableId) (key : Size) (cells seats
   pub plan_is : mine ≡ plan
   pub one : table.words ≡ 1
   pub key_is : key ≡ record { count = cells; parts = seats }
-  pub few : cells ≤ 1000000
-  pub some : 0 < seats
-  pub seats_few : seats ≤ 64
+  pub within : AreWithinLimits cells seats
 
 -- the result of a number that the seat has posted: it claimed the number, and knows the result
 abbrev pub IsOwn : List ℕ → List (Option TrialResult) → ℕ → Type 0

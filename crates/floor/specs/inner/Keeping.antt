@@ -1,5 +1,5 @@
 -- What the lock keeps, and what a seat keeps.
-use Rattle.std.specs.Prelude.{◌≡◌, ◌<◌, ◌≤◌, ℕ, List, [], Option, Some, length}
+use Rattle.std.specs.Prelude.{◌≡◌, ◌<◌, ◌≤◌, ℕ, List, [], Option, Some, length, Vec, vec_len, vec_capacity}
 use Rattle.atomic_table.specs.Table.{Me}
 use Rattle.atomic_table.specs.Seated.{TableId}
 use Rattle.base.specs.declared.step.Step.{Step}
@@ -9,7 +9,7 @@ use Rattle.machine.specs.Machine.{opened}
 use Rattle.monitor.specs.declared.violation.Violation.{Violation}
 use Rattle.monitor.specs.Watching.{HasSeen}
 use Rattle.record_lines.specs.declared.entry.Entry.{Entry}
-use Rattle.record.specs.View.{RecordingView, IsLegal, steps_of, with_owned}
+use Rattle.record.specs.View.{RecordingView, IsLegal, opened_of, steps_of, with_owned}
 use Rattle.world.specs.View.{View}
 use Rattle.world.specs.inner.Counts.{Rows}
 use Rattle.trials.specs.Terms.{Terms}
@@ -57,6 +57,20 @@ pub record IsStart (setup : Terms) (world : View) : Type 0 where
   pub shape : world.shape ≡ setup.shape
   pub tables : world.tables ≡ setup.tables
   pub state : world.state ≡ opened setup.shape setup.opening
+
+-- a recording of so many seats under a setup, without entries
+abbrev pub OpensUnder : ℕ → Terms → RecordingView → Type 0
+OpensUnder seats setup recording = recording ≡ opened_of seats setup.shape setup.tables setup.opening
+
+-- what a hall of so many seats begins with: a world before its first step, a watch that has seen none, and a recording without entries
+pub record AreParts (seats : ℕ) (setup : Terms) (world : View) (watch : List ℕ) (recording : RecordingView) : Type 0 where
+  pub starts : IsStart setup world
+  pub seen : (w : View) → HasSeen w setup.opening [] watch
+  pub opens : OpensUnder seats setup recording
+
+-- a vector takes one more without asking for memory
+abbrev pub HasRoomForOne : {T A : Type 0} → Vec T A → Type 0
+HasRoomForOne v = vec_len v < vec_capacity v
 
 -- a world is as it was, but for its room
 pub record IsSame (old new : View) : Type 0 where

@@ -2,7 +2,9 @@
 use Rattle.std.specs.Prelude.{◌≡◌, ℕ, ◌+◌, ◌<◌, List, [], ◌∷◌, ◌++◌, length, true, false}
 use mathlib.Core.Option.{some}
 use lib.ListN.{get_elem?}
+use Rattle.atomic_table.specs.Seated.{TableId}
 use Rattle.atomic_table.specs.Table.{State, Me, Step}
+use Rattle.atomic_table.specs.declared.shared.Seat.{Seat}
 use Rattle.record_lines.specs.declared.entry.Entry.{Entry}
 use Rattle.floor.specs.declared.tokens.TokenView.{TokenView}
 use Rattle.floor.specs.Histories.{history}
@@ -76,3 +78,43 @@ Adds s me k new = ((e : Entry) → s.said ≡ some e → new.0 ≡ grown me.0 e)
 -- a step that changes nothing, and tells that the receipts of the seat in the keeper's hands are its history
 abbrev pub Compares : Step Entry → Me Entry TokenView → ℕ → Me Entry TokenView → Type 0
 Compares s me k new = (new ≡ me) × (me.0.made ≡ history me.0.number me.0.entries me.0.owners)
+
+-- a token of a word's table
+abbrev pub Token : Type 0
+Token = Seat Entry TokenView
+
+-- two tokens of a table of one word keep a recording, and sit for a seat
+pub record AreTied (table_id : TableId) (hall seat : Token) : Type 0 where
+  pub table : hall.table_id ≡ table_id
+  pub one : table_id.words ≡ 1
+  pub keeps : hall.me ≡ (keeper hall.me.0.entries hall.me.0.owners hall.me.0.next, [])
+  pub same : seat.table_id ≡ table_id
+  pub sits : seat.me ≡ (sitting seat.me.0.number seat.me.0.made, [])
+
+-- a token of a table of one word keeps a recording without entries
+pub record IsDealer (table_id : TableId) (hall : Token) : Type 0 where
+  pub table : hall.table_id ≡ table_id
+  pub one : table_id.words ≡ 1
+  pub keeps : hall.me ≡ (keeper [] [] hall.me.0.next, [])
+
+-- one more seat is dealt of it
+abbrev pub HasDealt : Token → Token → Type 0
+HasDealt old new = (new.me ≡ (keeper [] [] (old.me.0.next + 1), [])) × (new.table_id ≡ old.table_id)
+
+-- which is the next one, and has no receipts
+abbrev pub IsNewlyDealt : Token → Token → Type 0
+IsNewlyDealt hall seat = (seat.me ≡ (sitting hall.me.0.next [], [])) × (seat.table_id ≡ hall.table_id)
+
+-- what the seat has is what it owns of the recording
+abbrev pub TellsHistory : Token → Token → Type 0
+TellsHistory hall seat = seat.me.0.made ≡ history seat.me.0.number hall.me.0.entries hall.me.0.owners
+
+-- the recording has one entry more, which the seat owns and has
+pub record AddsEntry (hall seat : Token) (entry : Entry) (hall' seat' : Token) : Type 0 where
+  pub hall_has : hall'.me ≡ (keeper (hall.me.0.entries ++ entry ∷ []) (hall.me.0.owners ++ seat.me.0.number ∷ []) hall.me.0.next, [])
+  pub seat_has : seat'.me ≡ (sitting seat.me.0.number (seat.me.0.made ++ (length hall.me.0.entries, entry) ∷ []), [])
+  pub table : (hall'.table_id ≡ hall.table_id) × (seat'.table_id ≡ seat.table_id)
+
+-- a token has stayed the same
+abbrev pub IsSameToken : Token → Token → Type 0
+IsSameToken old new = (new.me ≡ old.me) × (new.table_id ≡ old.table_id)

@@ -1,19 +1,28 @@
 -- What changing a lane leaves of the lanes.
-use Rattle.std.specs.Prelude.{◌≡◌, ◌≢◌, ◌<◌, ◌⊎◌, ℕ, List, Option, Some, length, slice_index, slice_index_or, slice_set}
+use Rattle.std.specs.Prelude.{◌≡◌, ◌≢◌, ◌<◌, ◌+◌, ◌⊎◌, ℕ, Bool, true, false, List, Option, Some, IfSome, length, take, slice_index, slice_index_or, slice_set}
+use Rattle.std.specs.List.{sum}
+use Rattle.base.specs.Steps.{block_of}
+use Rattle.base.specs.declared.step.Step.{Step}
 use Rattle.base.specs.declared.ids.BlockId.{BlockId}
 use Rattle.base.specs.declared.ids.CacheId.{CacheId}
 use Rattle.base.specs.declared.ids.Place.{Place}
 use Rattle.base.specs.declared.ids.Place.TheVariants.{Cache}
 use Rattle.machine.specs.Coherence.{line_at}
+use Rattle.machine.specs.declared.made.Made.{Made}
 use Rattle.machine.specs.Machine.{State}
 use Rattle.tables.specs.Tables.{Tables}
 use Rattle.blocks.specs.declared.block.asking.HeldAsks.{HeldAsks}
 use Rattle.cores.specs.Cores.{Core, is_free}
 use Rattle.scenario.specs.Alike.{Alike}
 use Rattle.scenario.specs.Taking.{left}
-use Rattle.lanes.specs.Lanes.{Laned, AreLanesKept, IsListed, lanes_of, listed_at, offers_at, puttable, whole}
+use Rattle.schedule.specs.Choices.{rest_after}
+use Rattle.lanes.specs.Lanes.{Laned, AreLanesKept, AreReady, FollowsStep, IsListed, lanes_of, listed_at, offers_at, puttable, whole}
+use Rattle.lanes.specs.Picks.{choice_of}
+use Rattle.lanes.specs.declared.picking.Pick.{Pick}
 use Rattle.schedule.specs.Listed.{IsMarked, Listed, nothing_listed}
 use Rattle.schedule.specs.Marks.{all_marked, marked_by, offers_by}
+use Rattle.schedule.specs.Owned.{IsMarkedIf}
+use Rattle.world.specs.View.{View}
 use Rattle.std.specs.List.{Contains}
 
 -- one lane was listed anew: of the others the same is kept, and they are where they were
@@ -29,6 +38,30 @@ pub record TakesFrom (lane offer : ℕ) (old new : Laned) : Type 0 where
   pub rest : Alike (whole new) (left (whole old) offer)
   pub kept : AreLanesKept new
   pub others : KeepsOtherLanes lane old new
+
+-- the offer at a place of a lane was taken, which has as many before it as the lanes before it have, and its place
+abbrev pub TakesPlace : ℕ → ℕ → Laned → Laned → Type 0
+TakesPlace lane place old new = TakesFrom lane (sum (take lane old.lengths) + place) old new
+
+-- what is left is what is left behind the choice of a pick
+abbrev pub IsLeftBehind : Pick → Laned → Laned → Type 0
+IsLeftBehind pick old new = Alike (whole new) (rest_after (choice_of old pick) (whole old))
+
+-- the lane is there, if there is one
+abbrev pub IsLaneThere : Laned → Option ℕ → Type 0
+IsLaneThere l anew = IfSome anew (λ lane. lane < length l.trees)
+
+-- the marks of a lane are right in a world
+abbrev pub IsLaneMarked : View → Laned → ℕ → Type 0
+IsLaneMarked world l lane = IsMarked world.tables world.state (listed_at l lane)
+
+-- those of the lane that was marked anew are, if one was
+abbrev pub IsMarkedAnew : View → Laned → Option ℕ → Type 0
+IsMarkedAnew world l anew = IfSome anew (λ lane. IsLaneMarked world l lane)
+
+-- a lane was marked anew in a world; or it wasn't, and its marks are those that it had
+abbrev pub IsLaneMarkedIf : View → ℕ → Laned → Laned → Bool → Type 0
+IsLaneMarkedIf world lane old new anew = IsMarkedIf world.tables world.state anew (listed_at old lane) (listed_at new lane)
 
 -- how many asks can be put by their marks
 abbrev pub count_by : List Core → Listed → ℕ
@@ -76,6 +109,24 @@ IsCountedAt cores at old new lane =
     ⊎ ((slice_index new.ready lane ≡ slice_index old.ready lane)
     × ((core : CacheId) → at ≡ Some (Cache core) → ¬ Contains (lanes_of old.reached core.0) lane))
 
+-- so it is of each lane
+abbrev pub EachIsCountedAt : List Core → Option Place → Laned → Laned → Type 0
+EachIsCountedAt cores at old new = (lane : ℕ) → lane < length old.trees → IsCountedAt cores at old new lane
+
+-- the count of each lane that may offer an ask of a core is that by its marks; or it is as it was, and the lane may offer none
+abbrev pub EachIsCountedOf : CacheId → List Core → Laned → Laned → Type 0
+EachIsCountedOf core cores old new =
+    (lane : ℕ) → lane < length old.trees → IsCountedIn cores old.listed (lanes_of old.reached core.0) old.ready new.ready lane
+
+-- the marks of each lane that may offer an ask of a core were made anew about a block, but for the one that was done
+abbrev pub EachIsMarkedOf : CacheId → HeldAsks → BlockId → Option ℕ → Laned → Laned → Type 0
+EachIsMarkedOf core held block done old new = (lane : ℕ) → lane < length old.trees →
+    IsMarkedIn held core block (lanes_of old.reached core.0) done (listed_at old lane) (listed_at new lane) lane
+
+-- a lane may offer an ask of the core whose cache this is
+abbrev pub IsReachedAt : Option Place → Laned → ℕ → Type 0
+IsReachedAt at l lane = (core : CacheId) × (at ≡ Some (Cache core)) × Contains (lanes_of l.reached core.0) lane
+
 -- the counts of all lanes that may have an ask of a cache that this is are those by their marks
 abbrev pub AreCountedAt : List Core → Option Place → Laned → Type 0
 AreCountedAt cores at l = (core : CacheId) (lane : ℕ) → at ≡ Some (Cache core) → lane < length l.trees → Contains (lanes_of l.reached core.0) lane →
@@ -87,6 +138,10 @@ IsCountedIf cores anew old new lane =
     (slice_index new.ready lane ≡ count_by cores (listed_at old lane))
     ⊎ ((slice_index new.ready lane ≡ slice_index old.ready lane) × (anew ≢ Some lane))
 
+-- so it is of each lane
+abbrev pub EachIsCountedIf : List Core → Option ℕ → Laned → Laned → Type 0
+EachIsCountedIf cores anew old new = (lane : ℕ) → lane < length old.trees → IsCountedIf cores anew old new lane
+
 -- the marks of each lane are right
 abbrev pub AreMarked : Tables → State → Laned → Type 0
 AreMarked tables state l = (lane : ℕ) → lane < length l.trees → IsMarked tables state (listed_at l lane)
@@ -96,6 +151,18 @@ pub record WereReady (tables : Tables) (before : State) (cores_before : List Cor
   pub marked : (lane : ℕ) → lane < length l.trees → IsMarked tables now (listed_at l lane) ⊎ IsMarked tables before (listed_at l lane)
   pub still : (lane : ℕ) → lane < length l.trees → but ≢ Some lane → IsMarked tables before (listed_at l lane)
   pub counted : (lane : ℕ) → lane < length l.trees → but ≢ Some lane → slice_index l.ready lane ≡ puttable tables before cores_before (offers_at l lane)
+
+-- where lanes were ready at a moment before a step to a world, they were ready but for one lane at most, in spite of what was taken
+abbrev pub WereReadyBut : View → Laned → Laned → Option ℕ → Type 0
+WereReadyBut world old new but = (before : State) (cores_before : List Core) → before.broken ≡ false →
+    AreReady world.tables before cores_before old → WereReady world.tables before cores_before world.state but new
+
+-- behind a step about a block, which came to this, the marks are right, where they were before it but for one lane at most, and those of the
+-- lane that was done are
+abbrev pub MarksAgain : Tables → Made → BlockId → Option ℕ → Laned → Laned → Type 0
+MarksAgain tables made block done old new = (now : State) (step : Step) (before : State) (cores_before cores_now : List Core) (but : Option ℕ) →
+    IfSome done (λ lane. IsMarked tables now (listed_at old lane)) → before.broken ≡ false → now.broken ≡ false → block.0 ≡ block_of step →
+    FollowsStep tables step made before now cores_before cores_now → WereReady tables before cores_before now but old → AreMarked tables now new
 
 -- two moments agree on a core: on whether it is free, and on the lines of its cache
 pub record Agree (core : ℕ) (before behind : State) (cores_before cores_behind : List Core) : Type 0 where

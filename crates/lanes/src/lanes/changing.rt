@@ -19,20 +19,13 @@ use std::alloc::Allocator;
 use world::World;
 
 impl<'s, A: Allocator, B: Allocator + Clone> Lanes<'s, A, B> {
-    ghost use Rattle.std.specs.Prelude.{◌≡◌, ◌<◌, ◌+◌, ℕ, List, OnOk, IfOk, IfSome, false, length, take};
-    ghost use Rattle.std.specs.List.{sum};
-    ghost use Rattle.cores.specs.Cores.{Core};
-    ghost use Rattle.machine.specs.Machine.{State};
-    ghost use Rattle.scenario.specs.Alike.{Alike};
+    ghost use Rattle.std.specs.Prelude.{◌≡◌, ◌<◌, OnOk, IfOk, length};
     ghost use Rattle.scenario.specs.Tree.{Tree};
-    ghost use Rattle.schedule.specs.Choices.{chosen_step, rest_after};
     ghost use Rattle.lanes.specs.Fitting.{LanesFit};
-    ghost use Rattle.lanes.specs.Lanes.{AreLeft, AreAsFree, AreReady, FollowsStep, AreLanesKept, IsLevel, IsListed, laned, lanes_of, listed_at, offers_at, whole};
-    ghost use Rattle.lanes.specs.Picks.{IsPicked, choice_of};
-    ghost use Rattle.lanes.specs.inner.Changes.{AreCountedAt, ChangesCounts, IsCountedAt, IsCountedIf, IsCountedIn, KeepsOtherLanes};
-    ghost use Rattle.lanes.specs.inner.Changes.{TakesFrom, WereReady, counted_at};
-    ghost use Rattle.schedule.specs.Listed.{IsMarked};
-    ghost use Rattle.schedule.specs.Owned.{IsMarkedIf};
+    ghost use Rattle.lanes.specs.Lanes.{AreLanesKept, IsLevel, IsListed, laned, offers_at};
+    ghost use Rattle.lanes.specs.Picks.{FollowsPick, HasPick};
+    ghost use Rattle.lanes.specs.inner.Changes.{AreCountedAt, ChangesCounts, EachIsCountedAt, EachIsCountedIf, EachIsCountedOf, IsLaneMarkedIf};
+    ghost use Rattle.lanes.specs.inner.Changes.{IsLeftBehind, IsMarkedAnew, IsReachedAt, IsLaneThere, KeepsOtherLanes, TakesPlace, WereReadyBut, counted_at};
 
     /// Follows a pick that was made, by a step that came to this: an offer is taken, what is made anew for it is `alloc`'s, and the
     /// lanes that this and the step changed are marked and counted again. It is told whether a core may have turned: whether one
@@ -50,12 +43,8 @@ impl<'s, A: Allocator, B: Allocator + Clone> Lanes<'s, A, B> {
         world: &World,
         cores: &Cores,
     ) -> Result<(), NoMemory>
-        requires kept { AreLanesKept (laned self.old) }
-        requires picked { IsPicked pick.now (laned self.old) }
-        ensures left { OnOk result (AreLeft (rest_after (choice_of (laned self.old) pick.now) (whole (laned self.old))) (laned self.new)) }
-        ensures ready { OnOk result ((before : State) (cores_before : List Core) → AreReady world.now.tables before cores_before (laned self.old) →
-            FollowsStep world.now.tables (chosen_step (choice_of (laned self.old) pick.now)) made.now before world.now.state cores_before cores.now →
-            (turned ≡ false → AreAsFree cores_before cores.now) → AreReady world.now.tables world.now.state cores.now (laned self.new)) }
+        requires { HasPick pick.now self.old }
+        ensures ok { OnOk result (FollowsPick pick.now made.now turned world.now cores.now self.old self.new) }
         ensures fits { (tree : Tree) → LanesFit self.old tree → LanesFit self.new tree }
     {
         let anew = self.take_picked(alloc, pick, world)?;
@@ -74,15 +63,12 @@ impl<'s, A: Allocator, B: Allocator + Clone> Lanes<'s, A, B> {
         pick: &Pick,
         world: &World,
     ) -> Result<Option<usize>, NoMemory>
-        requires kept { AreLanesKept (laned self.old) }
-        requires picked { IsPicked pick.now (laned self.old) }
-        ensures rest { OnOk result (Alike (whole (laned self.new)) (rest_after (choice_of (laned self.old) pick.now) (whole (laned self.old)))) }
+        requires { HasPick pick.now self.old }
+        ensures rest { OnOk result (IsLeftBehind pick.now (laned self.old) (laned self.new)) }
         ensures kept { OnOk result (AreLanesKept (laned self.new)) }
-        ensures there { IfOk result (λ anew. IfSome anew (λ lane. lane < length (laned self.new).trees)) }
-        ensures marked { IfOk result (λ anew. IfSome anew (λ lane. IsMarked world.now.tables world.now.state (listed_at (laned self.new) lane))) }
-        ensures were { IfOk result (λ anew. (before : State) (cores_before : List Core) → before.broken ≡ false →
-            AreReady world.now.tables before cores_before (laned self.old) →
-            WereReady world.now.tables before cores_before world.now.state anew (laned self.new)) }
+        ensures there { IfOk result (IsLaneThere (laned self.new)) }
+        ensures marked { IfOk result (IsMarkedAnew world.now (laned self.new)) }
+        ensures were { IfOk result (WereReadyBut world.now (laned self.old) (laned self.new)) }
         ensures fits { (tree : Tree) → LanesFit self.old tree → LanesFit self.new tree }
     {
         match *pick {
@@ -98,10 +84,8 @@ impl<'s, A: Allocator, B: Allocator + Clone> Lanes<'s, A, B> {
     #[inline(always)]
     fn count_at(&mut self, at: Option<Place>, cores: &Cores)
         requires { AreLanesKept (laned self.old) }
-        ensures kept { AreLanesKept (laned self.new) }
         ensures counts { ChangesCounts (laned self.old) (laned self.new) }
-        ensures each { (lane : ℕ) → lane < length (laned self.old).trees →
-            IsCountedAt cores.now at (laned self.old) (laned self.new) lane }
+        ensures each { EachIsCountedAt cores.now at (laned self.old) (laned self.new) }
     {
         if let Some(core) = cache_of(at) {
             self.count_core(core, cores);
@@ -113,12 +97,10 @@ impl<'s, A: Allocator, B: Allocator + Clone> Lanes<'s, A, B> {
     #[inline(always)]
     fn count_anew(&mut self, anew: Option<usize>, at: Option<Place>, cores: &Cores)
         requires kept { AreLanesKept (laned self.old) }
-        requires there { IfSome anew (λ lane. lane < length (laned self.old).trees) }
+        requires there { IsLaneThere (laned self.old) anew }
         requires counted { AreCountedAt cores.now at (laned self.old) }
-        ensures kept { AreLanesKept (laned self.new) }
         ensures counts { ChangesCounts (laned self.old) (laned self.new) }
-        ensures each { (lane : ℕ) → lane < length (laned self.old).trees →
-            IsCountedIf cores.now anew (laned self.old) (laned self.new) lane }
+        ensures each { EachIsCountedIf cores.now anew (laned self.old) (laned self.new) }
     {
         let Some(lane) = anew else {
             return;
@@ -134,7 +116,7 @@ impl<'s, A: Allocator, B: Allocator + Clone> Lanes<'s, A, B> {
     fn is_reached(&self, at: Option<Place>, lane: usize) -> bool
         requires kept { AreLanesKept (laned self.now) }
         requires there { lane < length (laned self.now).trees }
-        ensures { result ≡ true → (core : CacheId) × (at ≡ Some (Cache core)) × Contains (lanes_of (laned self.now).reached core.0) lane }
+        ensures { result ≡ true → IsReachedAt at (laned self.now) lane }
     {
         match cache_of(at) {
             Some(core) => {
@@ -158,9 +140,8 @@ impl<'s, A: Allocator, B: Allocator + Clone> Lanes<'s, A, B> {
         requires kept { AreLanesKept (laned self.old) }
         requires there { lane < length (laned self.old).trees }
         requires offered { place < length (offers_at (laned self.old) lane) }
-        ensures takes { OnOk result (TakesFrom lane (sum (take lane (laned self.old).lengths) + place) (laned self.old) (laned self.new)) }
-        ensures marks { IfOk result (λ anew. IsMarkedIf world.now.tables world.now.state anew
-            (listed_at (laned self.old) lane) (listed_at (laned self.new) lane)) }
+        ensures takes { OnOk result (TakesPlace lane place (laned self.old) (laned self.new)) }
+        ensures marks { IfOk result (IsLaneMarkedIf world.now lane (laned self.old) (laned self.new)) }
         ensures fits { (tree : Tree) → LanesFit self.old tree → LanesFit self.new tree }
     {
         let repeats = self.lanes[lane].rest.pass_on(alloc, place)?;
@@ -181,8 +162,7 @@ impl<'s, A: Allocator, B: Allocator + Clone> Lanes<'s, A, B> {
         ensures level { OnOk result (IsLevel (laned self.new)) }
         ensures listed { OnOk result (IsListed (laned self.new) lane) }
         ensures others { OnOk result (KeepsOtherLanes lane (laned self.old) (laned self.new)) }
-        ensures marks { IfOk result (λ anew. IsMarkedIf world.now.tables world.now.state anew
-            (listed_at (laned self.old) lane) (listed_at (laned self.new) lane)) }
+        ensures marks { IfOk result (IsLaneMarkedIf world.now lane (laned self.old) (laned self.new)) }
     {
         let anew = self.lanes[lane].list(world)?;
         let offers = self.lanes[lane].asks.asks();
@@ -206,9 +186,7 @@ impl<'s, A: Allocator, B: Allocator + Clone> Lanes<'s, A, B> {
     fn count_core(&mut self, core: CacheId, cores: &Cores)
         requires { AreLanesKept (laned self.old) }
         ensures counts { ChangesCounts (laned self.old) (laned self.new) }
-        ensures each { (lane : ℕ) → lane < length (laned self.old).trees →
-            IsCountedIn cores.now (laned self.old).listed (lanes_of (laned self.old).reached core.0)
-            (laned self.old).ready (laned self.new).ready lane }
+        ensures each { EachIsCountedOf core cores.now (laned self.old) (laned self.new) }
     {
         let row = row_of(&self.reached, core);
         count_each(

@@ -11,13 +11,12 @@ impl<'s, A: Allocator, B: Allocator> Lanes<'s, A, B> {
     ghost use Rattle.std.specs.Option.{option_map};
     ghost use Rattle.scenario.specs.Taking.{offers};
     ghost use Rattle.schedule.specs.Choices.{choices_of};
-    ghost use Rattle.lanes.specs.Lanes.{AreReady, AreLanesKept, laned, whole};
+    ghost use Rattle.lanes.specs.Lanes.{AreCurrent, AreLanesKept, laned, whole};
     ghost use Rattle.lanes.specs.Picks.{IsPicked, choice_of};
 
     /// How many choices there are: the length of the list that [`choices`](schedule::choices) gives of this rest.
     pub fn count(&self, world: &World, cores: &Cores) -> u64
-        requires kept { AreLanesKept (laned self.now) }
-        requires ready { AreReady world.now.tables world.now.state cores.now (laned self.now) }
+        requires { AreCurrent world.now cores.now self.now }
         ensures { result ≡ length (choices_of world.now.tables world.now.state cores.now (whole (laned self.now))) }
     {
         if world.broken() {
@@ -30,8 +29,7 @@ impl<'s, A: Allocator, B: Allocator> Lanes<'s, A, B> {
     // Its answer isn't handed up by memory where it is inlined.
     #[inline(always)]
     pub fn pick(&self, world: &World, cores: &Cores, k: u64) -> Option<Pick>
-        requires kept { AreLanesKept (laned self.now) }
-        requires ready { AreReady world.now.tables world.now.state cores.now (laned self.now) }
+        requires { AreCurrent world.now cores.now self.now }
         ensures choice { option_map (choice_of (laned self.now)) result
             ≡ slice_get (choices_of world.now.tables world.now.state cores.now (whole (laned self.now))) k }
         ensures there { IfSome result (λ pick. IsPicked pick (laned self.now)) }

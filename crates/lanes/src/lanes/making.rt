@@ -39,11 +39,11 @@ impl<'s, A: Allocator, B: Allocator> Lane<'s, A, B> {
 }
 
 impl<'s, A: Allocator, B: Allocator + Clone> Lanes<'s, A, B> {
-    ghost use Rattle.std.specs.Prelude.{◌≡◌, ◌≢◌, ◌⊎◌, true, IfOk, IsOk, OnOk, length};
+    ghost use Rattle.std.specs.Prelude.{◌≡◌, true, IfOk, OnOk};
     ghost use Rattle.scenario.specs.Alike.{Alike};
     ghost use Rattle.scenario.specs.Tree.{plain};
-    ghost use Rattle.lanes.specs.Fitting.{LanesFit, how_many, lane_trees};
-    ghost use Rattle.lanes.specs.Lanes.{AreLeft, AreReady, AreLanesKept, IsLevel, laned, whole};
+    ghost use Rattle.lanes.specs.Fitting.{FitAgain, LanesFit};
+    ghost use Rattle.lanes.specs.Lanes.{AreLeft, AreReadyIn, AreLanesKept, IsLevel, laned, whole};
 
     /// All of a scenario is left. So many cores have the lanes noted that may offer an ask of them, which ought to be those of the
     /// world; any other number costs time alone.
@@ -55,7 +55,7 @@ impl<'s, A: Allocator, B: Allocator + Clone> Lanes<'s, A, B> {
         cores: &Cores,
     ) -> Result<Lanes<'s, A, B>, NoMemory>
         ensures left { IfOk result (λ lanes. AreLeft (plain scenario.entry.now) (laned lanes)) }
-        ensures ready { IfOk result (λ lanes. AreReady world.now.tables world.now.state cores.now (laned lanes)) }
+        ensures ready { IfOk result (AreReadyIn world.now cores.now) }
         ensures fits { IfOk result (λ lanes. LanesFit lanes (plain scenario.entry.now)) }
     {
         let mut lanes = Lanes::unlisted(alloc, scenario, count)?;
@@ -76,10 +76,8 @@ impl<'s, A: Allocator, B: Allocator + Clone> Lanes<'s, A, B> {
         cores: &Cores,
     ) -> Result<(), NoMemory>
         ensures left { OnOk result (AreLeft (plain scenario.entry.now) (laned self.new)) }
-        ensures ready { OnOk result (AreReady world.now.tables world.now.state cores.now (laned self.new)) }
-        ensures fits { LanesFit self.old (plain scenario.entry.now)
-            ⊎ (IsOk result × (length (laned self.old).trees ≢ how_many (lane_trees (plain scenario.entry.now)))) →
-            LanesFit self.new (plain scenario.entry.now) }
+        ensures ready { OnOk result (AreReadyIn world.now cores.now self.new) }
+        ensures fits { FitAgain (plain scenario.entry.now) result self.old self.new }
     {
         if self.is_level() && restart_each(&mut self.lanes, scenario) {
             self.list_all(world, cores)?;
@@ -107,7 +105,7 @@ impl<'s, A: Allocator, B: Allocator + Clone> Lanes<'s, A, B> {
         ensures trees { OnOk result ((laned self.new).trees ≡ (laned self.old).trees) }
         ensures stocks { (laned self.new).stocks ≡ (laned self.old).stocks }
         ensures kept { OnOk result (AreLanesKept (laned self.new)) }
-        ensures ready { OnOk result (AreReady world.now.tables world.now.state cores.now (laned self.new)) }
+        ensures ready { OnOk result (AreReadyIn world.now cores.now self.new) }
     {
         for lane in 0..self.lanes.len() {
             let anew = self.list(lane, world)?;

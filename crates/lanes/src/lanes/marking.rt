@@ -15,15 +15,9 @@ use std::alloc::Allocator;
 use world::World;
 
 impl<'s, A: Allocator, B: Allocator + Clone> Lanes<'s, A, B> {
-    ghost use Rattle.std.specs.Prelude.{◌≡◌, ◌<◌, ℕ, List, Option, IfSome, false, true, length};
-    ghost use Rattle.base.specs.Steps.{block_of};
-    ghost use Rattle.base.specs.declared.step.Step.{Step};
-    ghost use Rattle.cores.specs.Cores.{Core};
-    ghost use Rattle.tables.specs.Tables.{Tables};
-    ghost use Rattle.machine.specs.Machine.{State};
-    ghost use Rattle.lanes.specs.Lanes.{FollowsStep, AreLanesKept, laned, lanes_of, listed_at};
-    ghost use Rattle.schedule.specs.Listed.{IsMarked};
-    ghost use Rattle.lanes.specs.inner.Changes.{AreMarked, IsMarkedIn, ChangesMarks, WereReady, marked_in};
+    ghost use Rattle.std.specs.Prelude.{◌≡◌, ◌<◌, false, true, length};
+    ghost use Rattle.lanes.specs.Lanes.{AreLanesKept, laned};
+    ghost use Rattle.lanes.specs.inner.Changes.{ChangesMarks, EachIsMarkedOf, IsLaneMarked, MarksAgain, marked_in};
 
     /// Marks again what a step about a block changed, of which it is told what it came to, but for a lane that is marked already, if
     /// there is one, and answers whether it did. Where no line holds other asks than before there is nothing to mark.
@@ -36,14 +30,9 @@ impl<'s, A: Allocator, B: Allocator + Clone> Lanes<'s, A, B> {
         world: &World,
     ) -> bool
         requires { AreLanesKept (laned self.old) }
-        ensures kept { AreLanesKept (laned self.new) }
         ensures same { ChangesMarks (laned self.old) (laned self.new) }
         ensures left { result ≡ false → laned self.new ≡ laned self.old }
-        ensures marked { (now : State) (step : Step) (before : State) (cores_before cores_now : List Core) (but : Option ℕ) →
-            IfSome done (λ lane. IsMarked world.now.tables now (listed_at (laned self.old) lane)) →
-            before.broken ≡ false → now.broken ≡ false → block.0 ≡ block_of step →
-            FollowsStep world.now.tables step made.now before now cores_before cores_now →
-            WereReady world.now.tables before cores_before now but (laned self.old) → AreMarked world.now.tables now (laned self.new) }
+        ensures marked { MarksAgain world.now.tables made.now block done (laned self.old) (laned self.new) }
     {
         let Some(acted) = made.acted else {
             return false;
@@ -67,7 +56,7 @@ impl<'s, A: Allocator, B: Allocator + Clone> Lanes<'s, A, B> {
     /// Marks anew all that a lane offers, if it isn't marked already.
     pub(super) fn mark_lane(&mut self, lane: usize, is_marked: bool, world: &World)
         requires there { lane < length (laned self.old).trees }
-        requires marked { is_marked ≡ true → IsMarked world.now.tables world.now.state (listed_at (laned self.old) lane) }
+        requires marked { is_marked ≡ true → IsLaneMarked world.now (laned self.old) lane }
         ensures { laned self.new ≡ marked_in world.now.tables world.now.state lane (laned self.old) }
     {
         if is_marked {
@@ -80,11 +69,8 @@ impl<'s, A: Allocator, B: Allocator + Clone> Lanes<'s, A, B> {
     #[inline(always)]
     fn mark_core(&mut self, done: Option<usize>, core: CacheId, block: BlockId, held: HeldAsks)
         requires { AreLanesKept (laned self.old) }
-        ensures kept { AreLanesKept (laned self.new) }
         ensures same { ChangesMarks (laned self.old) (laned self.new) }
-        ensures each { (lane : ℕ) → lane < length (laned self.old).trees →
-            IsMarkedIn held core block (lanes_of (laned self.old).reached core.0) done
-            (listed_at (laned self.old) lane) (listed_at (laned self.new) lane) lane }
+        ensures each { EachIsMarkedOf core held block done (laned self.old) (laned self.new) }
     {
         let row = row_of(&self.reached, core);
         mark_each(

@@ -1,5 +1,6 @@
-use Rattle.std.specs.Prelude.{◌≡◌, ◌≢◌, ℕ, ◌+◌, ◌^◌, ◌<◌, ◌≤◌, ◌++◌, List, [], Option, None, Some, Bool, if◌then◌else◌, not, drop, false, length}
-use Rattle.std.specs.Prelude.{map, slice_index, slice_index_or, slice_set, take}
+use Rattle.std.specs.Prelude.{◌≡◌, ◌≢◌, ℕ, ◌+◌, ◌^◌, ◌<◌, ◌≤◌, ◌++◌, ◌∷◌, List, [], Option, None, Some, Bool, if◌then◌else◌, not, drop, false, length}
+use Rattle.std.specs.Prelude.{map, slice_index, slice_index_or, slice_set, take, IsOk, IfErr, OnErr, OnOk}
+use Rattle.std.specs.declared.result.Result.{Result}
 use Rattle.std.specs.List.{sum_by}
 use Rattle.network.specs.declared.message.Forward.{Forward}
 use Rattle.network.specs.declared.wire.Marked.{Marked}
@@ -35,6 +36,14 @@ remarked_from from mark sent = take from sent ++ remarked mark (drop from sent)
 pub record IsRemarked {M : Type 0} (from : ℕ) (told : M → Bool) (old new : Wired M) : Type 0 where
   pub sent : new.sent ≡ remarked_from from told old.sent
   pub room : new.room ≡ old.room
+
+-- a message stands at the end of a wire, or it came back and none has come or gone; where there was room it was sent
+pub record SendsOn {T M : Type 0} (message : M) (result : Result T M) (old new : Wired M) : Type 0 where
+  pub ok : OnOk result (new.sent ≡ old.sent ++ unmarked_one message ∷ [])
+  pub err : OnErr result (new.sent ≡ old.sent)
+  pub back : IfErr result (λ returned. returned ≡ message)
+  pub succeeds : 0 < old.room → IsOk result
+  pub room : old.room ≤ new.room + 1
 
 -- no message has come or gone, and there is no less room
 pub record KeepsMessages {M : Type 0} (old new : Wired M) : Type 0 where
@@ -88,6 +97,10 @@ pub record AreLinked (links : List (List (Marked Forward))) (waits frees : List 
   pub few : AreFew links
   pub count : all ≡ sum_by length links
 
+-- links with what they hold of wires
+abbrev pub linked_of : List (Option (Wired Forward)) → Linked
+linked_of links = record { sent = map on_link links; room = map room_on links }
+
 -- no link has less room
 pub record KeepsRoom (old new : List ℕ) : Type 0 where
   pub each : (cache : ℕ) → slice_index old cache ≤ slice_index new cache
@@ -106,3 +119,18 @@ pub record IsLinkRemarked (cache : ℕ) (told : Forward → Bool) (old new : Lin
 pub record UsesOneLink (cache : ℕ) (old new : List ℕ) : Type 0 where
   pub here : slice_index old cache ≤ slice_index new cache + 1
   pub others : (k : ℕ) → k ≢ cache → slice_index old k ≤ slice_index new k
+
+-- a message stands at the end of the link to a cache, or it came back and none has come or gone; where there was room it was sent
+pub record SendsOnLink {T : Type 0} (cache : ℕ) (forward : Forward) (result : Result T Forward) (old new : Linked) : Type 0 where
+  pub ok : OnOk result (new.sent ≡ slice_set old.sent cache (slice_index_or old.sent cache [] ++ unmarked_one forward ∷ []))
+  pub err : OnErr result (new.sent ≡ old.sent)
+  pub back : IfErr result (λ returned. returned ≡ forward)
+  pub succeeds : 0 < slice_index old.room cache → IsOk result
+  pub room : UsesOneLink cache old.room new.room
+
+-- there is room for so many more messages on the link to a cache, unless that was refused, which it isn't where there was; no message has
+-- come or gone
+pub record MakesRoomOnLink {T E : Type 0} (cache count : ℕ) (result : Result T E) (old new : Linked) : Type 0 where
+  pub kept : KeepsLinks old new
+  pub ok : OnOk result (count ≤ slice_index new.room cache)
+  pub succeeds : count ≤ slice_index old.room cache → IsOk result

@@ -1,8 +1,8 @@
 //! Room for messages that are still to be sent.
 
-ghost use Rattle.std.specs.Prelude.{◌≡◌, ◌<◌, ◌≤◌, [], IsOk, OnOk};
+ghost use Rattle.std.specs.Prelude.{◌≡◌, ◌<◌, ◌≤◌};
 ghost use Rattle.std.specs.Prelude.{length, slice_index, true};
-ghost use Rattle.network.specs.Room.{AllBelow, HasPlaces, MakesRoom, UsesRoomFor, times};
+ghost use Rattle.network.specs.Room.{AllBelow, HasPlaces, MakesRoom, times};
 
 use crate::wires::Wires;
 use base::{CacheId, NoMemory};
@@ -18,11 +18,7 @@ impl Wires {
         responses: usize,
     ) -> Result<(), NoMemory>
         requires { AllBelow (length self.old.traffic.links) links.now }
-        ensures traffic { self.new.traffic ≡ self.old.traffic }
-        ensures marks { self.new.marks ≡ self.old.marks }
-        ensures ok { OnOk result (HasPlaces requests links.now responses self.new.room) }
-        ensures succeeds { HasPlaces requests links.now responses self.old.room → IsOk result }
-        ensures room { UsesRoomFor [] self.old.room self.new.room }
+        ensures { MakesRoom (HasPlaces requests links.now responses) result self.old self.new }
     {
         self.reserve_ends(requests, responses)?;
         for link in links {

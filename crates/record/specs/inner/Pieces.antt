@@ -1,5 +1,5 @@
 -- What goes out where a recording's text is put into a sink piece by piece. Only private clauses cite this file.
-use Rattle.std.specs.Prelude.{◌≡◌, ℕ, ◌<◌, ◌+◌, List, [], ◌∷◌, ◌++◌, Option, if◌then◌else◌, codes, slice_index_or, length, map, take, ◌^◌}
+use Rattle.std.specs.Prelude.{◌≡◌, ℕ, ◌<◌, ◌≤◌, ◌+◌, List, [], ◌∷◌, ◌++◌, Option, if◌then◌else◌, codes, slice_index_or, length, map, take, ◌^◌}
 use Rattle.std.specs.Fmt.{decimal}
 use Rattle.std.specs.Io.KnownBytes.{Appends}
 use Rattle.base.specs.Extent.{Extent}
@@ -57,6 +57,11 @@ told_piece t = line (told_words t)
 -- the last line
 abbrev pub end_piece : List ℕ
 end_piece = line end_words
+
+-- a text is this piece, which is short
+pub record IsPiece (piece text : List ℕ) : Type 0 where
+  pub is : text ≡ piece
+  pub short : length text ≤ 192
 
 -- the pieces of a recording's text, in order
 abbrev pub pieces : RecordingView → List (List ℕ)

@@ -1,8 +1,10 @@
 -- What a step at one of the blocks leaves, kept or not, where blocks have so many caches and this one opens at a value.
-use Rattle.std.specs.Prelude.{◌≡◌, ◌≤◌, ◌⊎◌, ℕ, List, Option, false, length}
+use Rattle.std.specs.Prelude.{◌≡◌, ◌≤◌, ◌⊎◌, ℕ, List, Option, IfNone, IfSome, IsSome, false, length}
+use Rattle.base.specs.declared.step.Outcome.{Outcome}
 use Rattle.base.specs.declared.step.Step.{Step}
 use Rattle.tables.specs.Tables.{Tables}
 use Rattle.machine.specs.Made.{made_at}
+use Rattle.machine.specs.declared.decision.Decision.TheVariants.{Refused}
 use Rattle.machine.specs.Transition.{decision_of, messages_of, transition}
 use Rattle.blocks.specs.Marking.{marks_of}
 use Rattle.blocks.specs.View.{BlockView, acts, acts_at_line, lines_after}
@@ -43,6 +45,36 @@ pub record HasStepped (tables : Tables) (caches value number : ℕ) (step : Step
 pub record HasStayed (tables : Tables) (caches value number : ℕ) (step : Step) (old new : List (Option BlockView)) : Type 0 where
   pub visited : IsVisited tables caches value number step old new
   pub state : state_at caches value new number ≡ state_at caches value old number
+
+-- a block is kept for a step, or is as it was: no other one has changed, its state is the same, its marks are as true as they were, it
+-- keeps the same lines, and where no cell acts nothing has changed
+pub record Touches (tables : Tables) (caches value number : ℕ) (step : Step) (old new : List (Option BlockView)) : Type 0 where
+  pub others : OthersStay number old new
+  pub state : state_at caches value new number ≡ state_at caches value old number
+  pub marked : IsMarked tables (kept_at old number) → IsMarked tables (kept_at new number)
+  pub idle : acts (decision_of tables step (state_at caches value old number)) ≡ false → kept_at new number ≡ kept_at old number
+  pub lines : (cache : ℕ) → has_line (space_of (kept_at new number)) cache ≡ has_line (space_of (kept_at old number)) cache
+
+-- no cell acts on a step at a block, and this is the outcome; or the block is kept
+pub record IsTouched (tables : Tables) (caches value number : ℕ) (step : Step) (old : List (Option BlockView)) (done : Option Outcome)
+    (new : List (Option BlockView)) : Type 0 where
+  pub refused : IfSome done (λ what. decision_of tables step (state_at caches value old number) ≡ Refused what)
+  pub kept : IfNone done (IsSome (kept_at new number))
+
+-- the room that a step wants at a block was made, or not: no other block has changed, its state is the same, its marks are as true as they
+-- were, it keeps the same lines, and where no cell acts its room is the same
+pub record GetsReady (tables : Tables) (caches value number : ℕ) (step : Step) (old new : List (Option BlockView)) : Type 0 where
+  pub others : OthersStay number old new
+  pub state : state_at caches value new number ≡ state_at caches value old number
+  pub marked : IsMarked tables (kept_at old number) → IsMarked tables (kept_at new number)
+  pub idle : acts (decision_of tables step (state_at caches value old number)) ≡ false → space_of (kept_at new number) ≡ space_of (kept_at old number)
+  pub lines : (cache : ℕ) → has_line (space_of (kept_at new number)) cache ≡ has_line (space_of (kept_at old number)) cache
+
+-- this outcome is what a step will have at a block, and there is room for it
+pub record ForeseesAt (tables : Tables) (caches value number : ℕ) (step : Step) (old : List (Option BlockView)) (what : Outcome)
+    (new : List (Option BlockView)) : Type 0 where
+  pub outcome : what ≡ (transition tables step (state_at caches value old number)).outcome
+  pub room : HasSpaceAt (decision_of tables step (state_at caches value old number)) (state_at caches value old number) (space_of (kept_at new number))
 
 -- a step wants no memory at the block: there is room for it, or it wants nothing
 abbrev pub NeedsNoMemoryAt : Tables → ℕ → ℕ → ℕ → Step → List (Option BlockView) → Type 0

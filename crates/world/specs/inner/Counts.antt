@@ -1,5 +1,5 @@
 -- Three rows of numbers, which say of each block how many of each kind it has, and where the k-th of all is.
-use Rattle.std.specs.Prelude.{◌≡◌, ℕ, ◌+◌, ◌-◌, ◌<◌, ◌≤◌, List, Option, Some, None, length, map, slice_get}
+use Rattle.std.specs.Prelude.{◌≡◌, ℕ, ◌+◌, ◌-◌, ◌<◌, ◌≤◌, List, Option, Some, None, length, map, replicate, slice_get, slice_set}
 use Rattle.std.specs.List.{sum}
 use Rattle.std.specs.Option.{option_map}
 use Rattle.base.specs.declared.step.Step.{Step}
@@ -20,6 +20,18 @@ pub record Rows : Type 0 where
   pub requests : List ℕ
   pub heads : List ℕ
   pub responses : List ℕ
+
+-- the rows of so many blocks that have none
+abbrev pub none_counted : ℕ → Rows
+none_counted blocks = record { requests = replicate blocks 0; heads = replicate blocks 0; responses = replicate blocks 0 }
+
+-- the rows with other numbers of a block
+abbrev pub with_counts : ℕ → ℕ → ℕ → ℕ → Rows → Rows
+with_counts block requests heads responses rows = record {
+  requests = slice_set rows.requests block requests;
+  heads = slice_set rows.heads block heads;
+  responses = slice_set rows.responses block responses;
+}
 
 -- the rows are of the same blocks, and of no more than a world may have
 pub record AreLevel (rows : Rows) : Type 0 where

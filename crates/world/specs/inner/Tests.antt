@@ -1,12 +1,12 @@
 -- What a world keeps of the tests of its blocks' messages.
-use Rattle.std.specs.Prelude.{◌≡◌, ℕ, Option, Some, None, slice_set}
+use Rattle.std.specs.Prelude.{◌≡◌, ℕ, Option, Some, None}
 use Rattle.tables.specs.Tables.{Tables}
 use Rattle.blocks.specs.View.{BlockView}
 use Rattle.blocks.specs.Marking.{marks_of}
 use Rattle.blocks.specs.Tests.{IsFound}
 use Rattle.blocks.specs.declared.block.testing.Tested.{Tested}
 use Rattle.machine.specs.Block.{BlockState}
-use Rattle.world.specs.inner.Counts.{Rows}
+use Rattle.world.specs.inner.Counts.{Rows, with_counts}
 
 -- a step's test found what its block has on the wires, or no cell acted
 abbrev pub IsTested : Tables → BlockState → BlockState → Option Tested → Type 0
@@ -21,11 +21,7 @@ tested_in (Some t) = t.messages
 -- the rows of counts after the test of a block
 abbrev pub counted : Option Tested → ℕ → Rows → Rows
 counted None number rows = rows
-counted (Some t) number rows = record {
-  requests = slice_set rows.requests number t.requests;
-  heads = slice_set rows.heads number t.heads;
-  responses = slice_set rows.responses number t.responses;
-}
+counted (Some t) number rows = with_counts number t.requests t.heads t.responses rows
 
 -- the marks of a block are true, if it is kept
 abbrev pub IsMarked : Tables → Option BlockView → Type 0

@@ -31,18 +31,16 @@ pub returns-clause-restrained : goal.returns-clause-restrained
 returns-clause-restrained c =
     (says-restrained c.args.tables.now c.answer_to.result c.answer_to.ensures, said-where-restrained c.args.tables.now c.answer_to.result c.answer_to.ensures)
 
-pub returns-clause-safe : goal.returns-clause-safe
-returns-clause-safe c = λ said shape opening steps.
-    c.certified_tables_are_safe.ensures.safe c.args.tables.now c.answer_to.result shape opening steps c.answer_to.ensures said
-
-pub returns-clause-never_met : goal.returns-clause-never_met
-returns-clause-never_met c = λ said shape opening steps step. c.restrained_tables_are_safe.ensures.never_met c.args.tables.now shape opening steps step
-    (says-restrained c.args.tables.now c.answer_to.result c.answer_to.ensures said)
-
-pub returns-clause-flowing : goal.returns-clause-flowing
-returns-clause-flowing c = λ said shape opening steps.
-    c.certified_tables_are_safe.ensures.flowing c.args.tables.now c.answer_to.result shape opening steps c.answer_to.ensures said
-
-pub returns-clause-unstuck : goal.returns-clause-unstuck
-returns-clause-unstuck c = λ said shape opening steps.
-    c.certified_tables_are_safe.ensures.unstuck c.args.tables.now c.answer_to.result shape opening steps c.answer_to.ensures said
+pub returns-clause-runs : goal.returns-clause-runs
+returns-clause-runs c =
+    let tables = c.args.tables.now in
+    let answer = c.answer_to.result in
+    let is = c.answer_to.ensures in
+    let told = c.certified_tables_are_safe.ensures in
+    record {
+      safe = λ said shape opening steps. told.safe tables answer shape opening steps is said;
+      never_met = λ said shape opening steps step. c.restrained_tables_are_safe.ensures.never_met tables shape opening steps step
+          (says-restrained tables answer is said);
+      flowing = λ said shape opening steps. told.flowing tables answer shape opening steps is said;
+      unstuck = λ said shape opening steps. told.unstuck tables answer shape opening steps is said;
+    }

@@ -8,6 +8,6 @@ use Rattle.closing.proofs.balancing.home_is_balanced.Goals as goal
 pub returns : goal.returns
 returns c = λ both. let each = both-true c.sight_is_balanced.result c.sight_is_balanced-2.result both in
     λ t. elim t as (λ t. KeepsBalanceIn c.args.pair.now (home_data_seen c.args.tables.now t c.args.pair.now)) [
-      | false ↦ subst (λ (s : Sight). KeepsBalanceIn c.args.pair.now s) c.home_data_seen.ensures.seen (c.sight_is_balanced.ensures each.0)
-      | true ↦ subst (λ (s : Sight). KeepsBalanceIn c.args.pair.now s) c.home_data_seen-2.ensures.seen (c.sight_is_balanced-2.ensures each.1)
+      | false ↦ subst (λ (s : Sight). KeepsBalanceIn c.args.pair.now s) c.home_data_seen.ensures.0 (c.sight_is_balanced.ensures each.0)
+      | true ↦ subst (λ (s : Sight). KeepsBalanceIn c.args.pair.now s) c.home_data_seen-2.ensures.0 (c.sight_is_balanced-2.ensures each.1)
     ]

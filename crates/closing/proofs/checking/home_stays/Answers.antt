@@ -8,6 +8,6 @@ use Rattle.closing.proofs.checking.home_stays.Goals as goal
 pub returns : goal.returns
 returns c = λ both. let each = both-true c.stays.result c.stays-2.result both in
     λ t. elim t as (λ t. Stays c.args.list.now c.args.ranked.now (home_data_seen c.args.tables.now t c.args.ranked.now.pair)) [
-      | false ↦ subst (λ (s : Sight). Stays c.args.list.now c.args.ranked.now s) c.home_data_seen.ensures.seen (c.stays.ensures each.0)
-      | true ↦ subst (λ (s : Sight). Stays c.args.list.now c.args.ranked.now s) c.home_data_seen-2.ensures.seen (c.stays-2.ensures each.1)
+      | false ↦ subst (λ (s : Sight). Stays c.args.list.now c.args.ranked.now s) c.home_data_seen.ensures.0 (c.stays.ensures each.0)
+      | true ↦ subst (λ (s : Sight). Stays c.args.list.now c.args.ranked.now s) c.home_data_seen-2.ensures.0 (c.stays-2.ensures each.1)
     ]

@@ -1,7 +1,5 @@
 use Rattle.std.proofs.Common.{◌≡◌, ℕ, drop, length}
-use Rattle.network.specs.Marks.{all_marks_added}
-use Rattle.network.specs.Traffic.{all_sent}
-use Rattle.network.specs.Room.{HasRoomFor}
+use Rattle.network.specs.Room.{HasRoomFor, Sends, Wiring}
 use Rattle.control.specs.HomeEffect.{home_messages, home_moved}
 use Rattle.control.specs.Homes.{IsBelow, NamesBelow}
 use Rattle.control.proofs.home_acts.perform_all.Given as goal
@@ -12,9 +10,7 @@ invariant-loop-action l = record {
   flags : length l.home.sharers ≡ length l.fn.home.sharers;
   named : (n : ℕ) → NamesBelow n l.fn.home → IsBelow l.from n → NamesBelow n l.home;
   home : home_moved l.from l.value (drop l.action-index l.actions) l.home ≡ home_moved l.from l.value l.actions l.fn.home;
-  traffic : all_sent (home_messages l.from l.value (drop l.action-index l.actions) l.home) l.wires.traffic
-      ≡ all_sent (home_messages l.from l.value l.actions l.fn.home) l.fn.wires.traffic;
-  marks : all_marks_added (home_messages l.from l.value (drop l.action-index l.actions) l.home) l.wires.marks
-      ≡ all_marks_added (home_messages l.from l.value l.actions l.fn.home) l.fn.wires.marks;
+  sends : (new : Wiring) → Sends (home_messages l.from l.value (drop l.action-index l.actions) l.home) l.wires new
+      → Sends (home_messages l.from l.value l.actions l.fn.home) l.fn.wires new;
   room : HasRoomFor (home_messages l.from l.value (drop l.action-index l.actions) l.home) l.wires.room;
 }

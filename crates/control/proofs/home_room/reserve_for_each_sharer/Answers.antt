@@ -30,53 +30,8 @@ loop-next-preserved c =
 pub loop-next-init : goal.loop-next-init
 loop-next-init c = grind (arith, common_steps)
 
-pub returns-in_default-clause-traffic : goal.returns-in_default-clause-traffic
-returns-in_default-clause-traffic c = grind (arith, common_steps)
-
-pub returns-in_default-clause-marks : goal.returns-in_default-clause-marks
-returns-in_default-clause-marks c = grind (arith, common_steps)
-
-pub returns-in_default-clause-ok : goal.returns-in_default-clause-ok
-returns-in_default-clause-ok c = grind (arith, common_steps)
-
-pub returns-in_default-clause-succeeds : goal.returns-in_default-clause-succeeds
-returns-in_default-clause-succeeds c = grind (arith, common_steps)
-
-pub returns-in_default-clause-room : goal.returns-in_default-clause-room
-returns-in_default-clause-room c = grind (arith, common_steps)
-
-pub returns-in_err-reserve_link-clause-traffic : goal.returns-in_err-reserve_link-clause-traffic
-returns-in_err-reserve_link-clause-traffic c = grind (arith, common_steps)
-
-pub returns-in_err-reserve_link-clause-marks : goal.returns-in_err-reserve_link-clause-marks
-returns-in_err-reserve_link-clause-marks c = grind (arith, common_steps)
-
-pub returns-in_err-reserve_link-clause-ok : goal.returns-in_err-reserve_link-clause-ok
-returns-in_err-reserve_link-clause-ok c = grind (arith, common_steps)
-
-pub returns-in_err-reserve_link-clause-succeeds : goal.returns-in_err-reserve_link-clause-succeeds
-returns-in_err-reserve_link-clause-succeeds c = grind (arith, common_steps)
-
-pub returns-in_err-reserve_link-clause-room : goal.returns-in_err-reserve_link-clause-room
-returns-in_err-reserve_link-clause-room c = grind (arith, common_steps)
-
 pub overflow_add-next : goal.overflow_add-next
 overflow_add-next c = grind (arith, common_steps)
 
 pub loop-next-smaller : goal.loop-next-smaller
 loop-next-smaller c = grind (arith, common_steps)
-
-pub returns-clause-traffic : goal.returns-clause-traffic
-returns-clause-traffic c = grind (arith, common_steps)
-
-pub returns-clause-marks : goal.returns-clause-marks
-returns-clause-marks c = grind (arith, common_steps)
-
-pub returns-clause-ok : goal.returns-clause-ok
-returns-clause-ok c = grind (arith, common_steps)
-
-pub returns-clause-succeeds : goal.returns-clause-succeeds
-returns-clause-succeeds c = grind (arith, common_steps)
-
-pub returns-clause-room : goal.returns-clause-room
-returns-clause-room c = grind (arith, common_steps)

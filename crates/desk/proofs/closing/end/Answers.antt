@@ -2,10 +2,11 @@ use Rattle.std.proofs.lemmas.Grind.{common_steps}
 use Rattle.std.proofs.Common.{◌≡◌, ap, sym, ◌∙◌, subst, arith, None, length, get_or, rules}
 use Rattle.std.proofs.lemmas.List.Elements.{All-same, All-weaker}
 use Rattle.once_cell.specs.Once.{cell_name}
-use Rattle.desk.specs.Seats.{DeskSeatView}
-use Rattle.desk.specs.Closing.{IsPlace}
+use Rattle.desk.specs.Seats.{DeskSeatView, numbers_of}
+use Rattle.desk.specs.Closing.{AreClaimed, IsPlace}
 use Rattle.desk.proofs.Lists.{long_as, restored, item_at, put_back_same}
 use Rattle.desk.proofs.Collecting.{place_more, place_all}
+use Rattle.desk.proofs.Filled.{batched, filled, placed}
 use Rattle.desk.proofs.closing.end.Goals as goal
 
 pub loop-seat-preserved : goal.loop-seat-preserved
@@ -38,12 +39,25 @@ settle-requires-clause-these g c =
     ))
     c.args.seats.items c.requires.seats)
 
-pub returns-clause-places : goal.returns-clause-places
-returns-clause-places g c = λ k lt.
+pub returns : goal.returns
+returns g c =
     let i = c.loop-seat.invariant in
-    subst (λ ss. IsPlace g.D.Planned.plan ss k (get_or c.loop-seat.places.items k None)) c.deref_mut-seat-items.ensures.value
-    (place_all g.D.Planned.plan c.deref_mut-seat-items.result.now c.loop-seat.seat-index k (get_or c.loop-seat.places.items k None)
-    (let far = ap (λ l. length l) i.seats in omega (arith, c.loop-seat-test.false, far)) (i.places k lt))
+    let plan = g.D.Planned.plan in
+    let n = numbers_of c.args.desk.id in
+    let row = c.args.seats.items in
+    let list = c.loop-seat.places.items in
+    let claims : AreClaimed n row = grind (arith, common_steps) in
+    let stand = placed plan n row list i.long (λ k lt.
+    subst (λ ss. IsPlace plan ss k (get_or list k None)) c.deref_mut-seat-items.ensures.value
+    (place_all plan c.deref_mut-seat-items.result.now c.loop-seat.seat-index k (get_or list k None)
+    (let far = ap (λ l. length l) i.seats in omega (arith, c.loop-seat-test.false, far)) (i.places k lt))) in
+    record {
+      there = c.requires.enough;
+      claims = claims;
+      stand = stand;
+      filled = filled plan n row list claims stand;
+      batch = batched plan n row list stand;
+    }
 
 pub deref_mut-seat-items-requires : goal.deref_mut-seat-items-requires
 deref_mut-seat-items-requires g c κs = search rules
@@ -77,9 +91,3 @@ drop-desk-inside-requires g c κs = search rules
 
 pub drop-desk-inside-requires-2 : goal.drop-desk-inside-requires-2
 drop-desk-inside-requires-2 g c κs = search rules
-
-pub returns-clause-claims : goal.returns-clause-claims
-returns-clause-claims g c = grind (arith, common_steps)
-
-pub returns-clause-length : goal.returns-clause-length
-returns-clause-length g c = grind (arith, common_steps)

@@ -26,12 +26,15 @@ loop-seat-init g c =
       these = p.0;
     }
 
+pub merge_token-requires-clause-token : goal.merge_token-requires-clause-token
+merge_token-requires-clause-token g c = let i = c.loop-seat.invariant in record { table = i.table; one = c.requires.one; free = i.free }
+
 pub merge_token-requires-clause-other : goal.merge_token-requires-clause-other
 merge_token-requires-clause-other g c =
     let t = c.into_token-other.ensures in
     let p = All-pop (λ (v : DeskSeatView). (v.desk.table ≡ c.args.word.now.shared.table_id) × (length v.desk.cells ≡ c.args.word.now.shared.key.count))
     c.loop-seat.seats.items c.pop-in-loop-seat.new.self.items (Some c.in-Some-pop.seat) c.in-Some-pop.ensures.items c.loop-seat.invariant.these in
-    (t.table ∙ p.1.0, ap (λ m. m.1) t.me)
+    record { table = t.table ∙ p.1.0; one = c.requires.one; free = ap (λ m. m.1) t.me }
 
 pub loop-seat-preserved : goal.loop-seat-preserved
 loop-seat-preserved g c =
@@ -60,6 +63,11 @@ loop-seat-preserved g c =
           ∙ (ap (λ x. (old.over || x.0.over) || any_told rest) t.me ∙ (sym (told_moves old.over rest s) ∙ (ap (λ l. old.over || any_told l) (sym e) ∙ i.told)));
       these = p.0;
     }
+
+pub count_all-requires : goal.count_all-requires
+count_all-requires g c =
+    let i = c.loop-seat.invariant in
+    record { of_word = record { table = i.table; one = c.requires.one; free = i.free }; count_is = i.count; all = grind (arith, common_steps) }
 
 pub returns-in_default : goal.returns-in_default
 returns-in_default g c = grind (arith, common_steps)

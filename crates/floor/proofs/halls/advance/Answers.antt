@@ -9,7 +9,7 @@ use Rattle.floor.proofs.halls.advance.Goals as goal
 
 pub returns-clause-ok : goal.returns-clause-ok
 returns-clause-ok c =
-    let r = c.ready.ensures in
+    let r = c.ready.ensures.kept in
     let m = c.in-Ok.ensures.ok in
     let old = c.args.world.now in
     let step = c.args.step in
@@ -19,7 +19,7 @@ returns-clause-ok c =
     subst (λ (t : Tables). IsTold t old.state step made behind) r.tables
     (subst (λ (s : State). IsTold c.ready.new.self.tables s step made behind) r.state m.told) in
     let same : c.in_ok-outcome.outcome ≡ made.outcome =
-    c.in_ok-outcome.ensures.outcome ∙ ap (λ (n : Next). n.outcome) (next-told old.tables old.state step made behind told) in
+    c.in_ok-outcome.ensures.ok.outcome ∙ ap (λ (n : Next). n.outcome) (next-told old.tables old.state step made behind told) in
     record {
       told = told;
       shape = m.shape ∙ r.shape;

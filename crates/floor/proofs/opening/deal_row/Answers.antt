@@ -1,4 +1,4 @@
-use Rattle.std.proofs.Common.{◌≡◌, ◌++◌, ◌∷◌, ◌+◌, [], ℕ, List, map, arith, ap, subst, sym, ◌∙◌}
+use Rattle.std.proofs.Common.{◌≡◌, ◌++◌, ◌∷◌, ◌+◌, [], ℕ, List, map, arith, ap, refl, subst, sym, ◌∙◌}
 use Rattle.std.proofs.lemmas.Grind.{common_steps}
 use Rattle.std.specs.List.{range_with_len}
 use Rattle.std.proofs.lemmas.List.FromFn.{map-range_with_len_more}
@@ -53,3 +53,12 @@ returns-clause-dealt g c = grind (arith, common_steps)
 
 pub returns-clause-same : goal.returns-clause-same
 returns-clause-same g c = grind (arith, common_steps)
+
+pub deal_seat-dealt-requires : goal.deal_seat-dealt-requires
+deal_seat-dealt-requires g c =
+    let i = c.loop-number.invariant in
+    record {
+      table = i.table;
+      one = c.requires.one;
+      keeps = subst (λ (m : Me Entry TokenView). m ≡ (keeper [] [] m.0.next, [])) (sym i.dealt) refl;
+    }

@@ -1,11 +1,8 @@
 use Rattle.std.proofs.Common.{◌≡◌, ◌∙◌, ap, sym, subst, [], ℕ, List, None, arith}
 use Rattle.std.proofs.lemmas.Grind.{common_steps}
-use Rattle.monitor.specs.Watching.{HasSeen}
-use Rattle.record.specs.View.{opened_of}
 use Rattle.trials.specs.Terms.{Terms}
-use Rattle.world.specs.View.{View}
 use Rattle.floor.specs.FloorId.{FloorId}
-use Rattle.floor.specs.inner.Keeping.{IsKeptUp, IsStart}
+use Rattle.floor.specs.inner.Keeping.{AreParts, IsKeptUp}
 use Rattle.floor.proofs.Entering.{kept_first}
 use Rattle.floor.proofs.Recounting.{shared_first}
 use Rattle.floor.proofs.opening.open_hall.Goals as goal
@@ -17,17 +14,14 @@ invariant_of-hall g c =
     let seats : c.args.seats ≡ g.F.Naming.floor.seats = ap (λ (f : FloorId). f.seats) (sym c.requires.name) in (
       subst (λ (owners : List ℕ). IsKeptUp g.F.Naming.floor c.in_ok-world.world c.in_ok-world.watch c.in_ok-world.recording owners None)
           (sym c.new.ensures.items) (kept_first g.F.Naming.floor c.in_ok-world.world c.in_ok-world.watch c.in_ok-world.recording
-          (subst (λ (t : Terms). IsStart t c.in_ok-world.world) setup parts.world)
-          (subst (λ (t : Terms). (w : View) → HasSeen w t.opening [] c.in_ok-world.watch) setup parts.watch)
-          (subst (λ (t : Terms). c.in_ok-world.recording ≡ opened_of g.F.Naming.floor.seats t.shape t.tables t.opening) setup
-          (subst (λ n. c.in_ok-world.recording ≡ opened_of n c.args.setup.now.shape c.args.setup.now.tables c.args.setup.now.opening) seats
-          parts.recording))),
+          (subst (λ (t : Terms). AreParts g.F.Naming.floor.seats t c.in_ok-world.world c.in_ok-world.watch c.in_ok-world.recording) setup
+          (subst (λ n. AreParts n c.args.setup.now c.in_ok-world.world c.in_ok-world.watch c.in_ok-world.recording) seats parts))),
       record {
         capacity_is = grind (arith, common_steps);
         seats_is = grind (arith, common_steps);
         some = grind (arith, common_steps);
         few = grind (arith, common_steps);
-        shared = shared_first g.F.Naming.floor.seats c.args.setup.now c.in_ok-world.world c.in_ok-shares.shares.items parts.world
+        shared = shared_first g.F.Naming.floor.seats c.args.setup.now c.in_ok-world.world c.in_ok-shares.shares.items parts.starts
             (c.in_ok-shares.ensures.count ∙ seats) c.in_ok-shares.ensures.none;
         within = grind (arith, common_steps);
         table_is = grind (arith, common_steps);

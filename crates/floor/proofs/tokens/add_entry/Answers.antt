@@ -65,14 +65,9 @@ left_behind c =
     c.args.entry.now c.requires.keeps (ap (λ t. t.me) c.replace-token.ensures.value) c.split_seat-spare.ensures.2 c.join_seat.ensures.2
     (x.0 c.args.entry.now refl) x.1 k.2 k.4
 
-pub returns-clause-hall : goal.returns-clause-hall
-returns-clause-hall c = (left_behind c).0
-
-pub returns-clause-seat : goal.returns-clause-seat
-returns-clause-seat c = (left_behind c).1
-
-pub returns-clause-table : goal.returns-clause-table
-returns-clause-table c =
+pub returns-clause-added : goal.returns-clause-added
+returns-clause-added c =
     let k = c.split_seat-token.ensures in
     let back = c.compare_exchange_with.ensures.0 ∙ (c.join_seat.ensures.0 ∙ c.split_seat-spare.ensures.0) in
-    (k.0 ∙ back, k.3 ∙ (back ∙ (c.requires.table ∙ sym c.requires.same)))
+    let has = left_behind (goal.at.returns-clause-added c).After-drop-seat in
+    record { hall_has = has.0; seat_has = has.1; table = (k.0 ∙ back, k.3 ∙ (back ∙ (c.requires.table ∙ sym c.requires.same))) }

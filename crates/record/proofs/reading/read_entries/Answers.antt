@@ -3,8 +3,8 @@ use Rattle.record.specs.inner.Drafts.{recorded}
 use Rattle.record.proofs.Telling.{read-recordable, read-versioned}
 use Rattle.record.proofs.reading.read_entries.Goals as goal
 
-pub returns-in-Ok-clause-text : goal.returns-in-Ok-clause-text
-returns-in-Ok-clause-text g c =
+pub returns-in-Ok : goal.returns-in-Ok
+returns-in-Ok g c =
     let whole = c.in-Ok.ensures.text in
     record {
       recording = recorded whole.recording;

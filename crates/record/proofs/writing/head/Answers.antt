@@ -1,4 +1,5 @@
-use Rattle.std.proofs.Common.{◌≡◌, ℕ, List, [], ◌∷◌, ◌++◌, codes, ap, ◌∙◌, append_assoc, append-nil, refl, rules}
+use Rattle.std.proofs.Common.{◌≡◌, ℕ, List, [], ◌∷◌, ◌++◌, codes, ap, ◌∙◌, append_assoc, append-nil, arith, refl, rules}
+use Rattle.std.proofs.lemmas.Grind.{common_steps}
 use Rattle.std.specs.Fmt.{decimal}
 use Rattle.base.specs.declared.controller.protocol.Protocol.{Protocol}
 use Rattle.base.specs.Protocols.{protocol_name}
@@ -19,8 +20,8 @@ parts : (p : Protocol) (c k s : ℕ) →
     ≡ head_piece p (record { caches = c; blocks = k }) s
 parts p c k s = refl
 
-pub returns-clause-piece : goal.returns-clause-piece
-returns-clause-piece c =
+pub returns : goal.returns
+returns c =
     let name : c.as_bytes.result.now ≡ protocol_name c.args.protocol = search rules in
     let caches : c.from.result ≡ c.args.shape.caches = search rules in
     let blocks : c.from-2.result ≡ c.args.shape.blocks = search rules in
@@ -33,14 +34,18 @@ returns-clause-piece c =
     let five = c.push-4.ensures.text ∙ ap (λ l. l ++ codes "\nseats") four in
     let six = c.push_number-3.ensures.text ∙ ap (λ l. l ++ (32 ∷ decimal c.from-3.result)) five in
     let seven = c.push-5.ensures.text ∙ ap (λ l. l ++ codes "\nopening") six in
-    seven
-    ∙ put (10 ∷ []) (32 ∷ []) (codes "msi-recording") (codes "2") (codes "protocol") (codes "shape") (codes "seats") (codes "opening")
-    (protocol_name c.args.protocol)
-    (decimal c.from.result) (decimal c.from-2.result) (decimal c.from-3.result)
-    ∙ parts c.args.protocol c.from.result c.from-2.result c.from-3.result
-    ∙ ap (λ n. piece n c.from-2.result c.from-3.result) caches
-    ∙ ap (λ n. piece c.args.shape.caches n c.from-3.result) blocks
-    ∙ ap (λ n. piece c.args.shape.caches c.args.shape.blocks n) seats
+    record {
+      is =
+          seven
+          ∙ put (10 ∷ []) (32 ∷ []) (codes "msi-recording") (codes "2") (codes "protocol") (codes "shape") (codes "seats") (codes "opening")
+          (protocol_name c.args.protocol)
+          (decimal c.from.result) (decimal c.from-2.result) (decimal c.from-3.result)
+          ∙ parts c.args.protocol c.from.result c.from-2.result c.from-3.result
+          ∙ ap (λ n. piece n c.from-2.result c.from-3.result) caches
+          ∙ ap (λ n. piece c.args.shape.caches n c.from-3.result) blocks
+          ∙ ap (λ n. piece c.args.shape.caches c.args.shape.blocks n) seats;
+      short = grind (arith, common_steps);
+    }
   where
     piece : ℕ → ℕ → ℕ → List ℕ
     piece caches blocks seats = head_piece c.args.protocol (record { caches = caches; blocks = blocks }) seats

@@ -6,57 +6,30 @@ use Rattle.base.proofs.Spelled.{cut-words}
 use Rattle.record_lines.proofs.Openings.{many-values, no-value}
 use Rattle.record_lines.proofs.parsing.opening_of.Goals as goal
 
-pub returns-in_default-number_of-clause-err : goal.returns-in_default-number_of-clause-err
-returns-in_default-number_of-clause-err c =
+pub returns-in_default-number_of-clause-read : goal.returns-in_default-number_of-clause-read
+returns-in_default-number_of-clause-read c =
     let here : words_behind c.loop-rest.rest ≡ words c.in-Some.text.now = ap words_behind c.in-Some.is in
     let next = cut-words c.cut-in-loop-rest.result.1 (words c.in-Some.text.now) c.cut-in-loop-rest.result.0.now c.cut-in-loop-rest.ensures in
     no-value c.args.blocks (words c.args.line.now) c.loop-rest.values.items c.cut-in-loop-rest.result.0.now (words_behind c.cut-in-loop-rest.result.1)
     (c.loop-rest.invariant.0 ∙ ap (λ l. opening_words c.loop-rest.values.items ++ l) (here ∙ next)) (search rules) (search rules)
 
-pub returns-in-Some-rest-clause-err : goal.returns-in-Some-rest-clause-err
-returns-in-Some-rest-clause-err c =
+pub returns-in-Some-rest-clause-read : goal.returns-in-Some-rest-clause-read
+returns-in-Some-rest-clause-read c =
     let here : words_behind c.loop-rest.rest ≡ words c.in-Some-rest.field-0.now = ap words_behind c.in-Some-rest.is in
     many-values c.args.blocks (words c.args.line.now) c.loop-rest.values.items c.in-Some-rest.field-0.now
     (c.loop-rest.invariant.0 ∙ ap (λ l. opening_words c.loop-rest.values.items ++ l) here) (search rules)
 
-pub returns-then-ne-clause-count : goal.returns-then-ne-clause-count
-returns-then-ne-clause-count c = grind (arith, common_steps)
-
-pub returns-then-ne-clause-words : goal.returns-then-ne-clause-words
-returns-then-ne-clause-words c = grind (arith, common_steps)
-
-pub returns-then-ne-clause-small : goal.returns-then-ne-clause-small
-returns-then-ne-clause-small c = grind (arith, common_steps)
+pub returns-then-ne-clause-read : goal.returns-then-ne-clause-read
+returns-then-ne-clause-read c = grind (arith, common_steps)
 
 pub returns-then-ne-clause-room : goal.returns-then-ne-clause-room
 returns-then-ne-clause-room c = grind (arith, common_steps)
 
-pub returns-then-ne-clause-err : goal.returns-then-ne-clause-err
-returns-then-ne-clause-err c = grind (arith, common_steps)
-
-pub returns-in_default-clause-count : goal.returns-in_default-clause-count
-returns-in_default-clause-count c = grind (arith, common_steps)
-
-pub returns-in_default-clause-words : goal.returns-in_default-clause-words
-returns-in_default-clause-words c = grind (arith, common_steps)
-
-pub returns-in_default-clause-small : goal.returns-in_default-clause-small
-returns-in_default-clause-small c = grind (arith, common_steps)
+pub returns-in_default-clause-read : goal.returns-in_default-clause-read
+returns-in_default-clause-read c = grind (arith, common_steps)
 
 pub returns-in_default-clause-room : goal.returns-in_default-clause-room
 returns-in_default-clause-room c = grind (arith, common_steps)
-
-pub returns-in_default-clause-err : goal.returns-in_default-clause-err
-returns-in_default-clause-err c = grind (arith, common_steps)
-
-pub returns-in_default-number_of-clause-count : goal.returns-in_default-number_of-clause-count
-returns-in_default-number_of-clause-count c = grind (arith, common_steps)
-
-pub returns-in_default-number_of-clause-words : goal.returns-in_default-number_of-clause-words
-returns-in_default-number_of-clause-words c = grind (arith, common_steps)
-
-pub returns-in_default-number_of-clause-small : goal.returns-in_default-number_of-clause-small
-returns-in_default-number_of-clause-small c = grind (arith, common_steps)
 
 pub returns-in_default-number_of-clause-room : goal.returns-in_default-number_of-clause-room
 returns-in_default-number_of-clause-room c = grind (arith, common_steps)
@@ -67,29 +40,11 @@ loop-rest-smaller c = grind (arith, common_steps)
 pub loop-rest-preserved : goal.loop-rest-preserved
 loop-rest-preserved c = grind (arith, common_steps)
 
-pub returns-in-None-clause-count : goal.returns-in-None-clause-count
-returns-in-None-clause-count c = grind (arith, common_steps)
-
-pub returns-in-None-clause-words : goal.returns-in-None-clause-words
-returns-in-None-clause-words c = grind (arith, common_steps)
-
-pub returns-in-None-clause-small : goal.returns-in-None-clause-small
-returns-in-None-clause-small c = grind (arith, common_steps)
+pub returns-in-None-clause-read : goal.returns-in-None-clause-read
+returns-in-None-clause-read c = grind (arith, common_steps)
 
 pub returns-in-None-clause-room : goal.returns-in-None-clause-room
 returns-in-None-clause-room c = grind (arith, common_steps)
-
-pub returns-in-None-clause-err : goal.returns-in-None-clause-err
-returns-in-None-clause-err c = grind (arith, common_steps)
-
-pub returns-in-Some-rest-clause-count : goal.returns-in-Some-rest-clause-count
-returns-in-Some-rest-clause-count c = grind (arith, common_steps)
-
-pub returns-in-Some-rest-clause-words : goal.returns-in-Some-rest-clause-words
-returns-in-Some-rest-clause-words c = grind (arith, common_steps)
-
-pub returns-in-Some-rest-clause-small : goal.returns-in-Some-rest-clause-small
-returns-in-Some-rest-clause-small c = grind (arith, common_steps)
 
 pub returns-in-Some-rest-clause-room : goal.returns-in-Some-rest-clause-room
 returns-in-Some-rest-clause-room c = grind (arith, common_steps)

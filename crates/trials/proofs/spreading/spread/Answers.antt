@@ -1,12 +1,17 @@
+use Rattle.std.proofs.Common.{arith}
+use Rattle.std.proofs.lemmas.Grind.{common_steps}
 use Rattle.scenario.specs.Tree.{plain}
 use Rattle.trials.proofs.spreading.spread.Goals as goal
 
-pub returns-in-Ok-clause-unbroken : goal.returns-in-Ok-clause-unbroken
-returns-in-Ok-clause-unbroken g c restrained =
-    c.trials_under_restrained_tables.ensures.unbroken_batch c.args.setup.now (plain c.args.scenario.now) c.args.n c.in-Ok.results.items
-    restrained c.limit-limit.ensures.lawful c.in-Ok.ensures
-
-pub returns-in-Ok-clause-sound : goal.returns-in-Ok-clause-sound
-returns-in-Ok-clause-sound g c never =
-    c.trials_under_tables_that_keep_going.ensures.sound_batch c.args.setup.now (plain c.args.scenario.now) c.args.n c.in-Ok.results.items
-    never c.limit-limit.ensures.lawful c.in-Ok.ensures
+pub returns-in-Ok-clause-made : goal.returns-in-Ok-clause-made
+returns-in-Ok-clause-made g c =
+    let terms = c.args.setup.now in
+    let tree = plain c.args.scenario.now in
+    let lawful = c.setups_are_lawful.ensures in
+    let made = c.in-Ok.ensures in
+    record {
+      few = grind (arith, common_steps);
+      made = made;
+      unbroken = λ restrained. (c.trials_under_restrained_tables.ensures terms restrained lawful).unbroken_batch tree c.args.n c.in-Ok.results.items made;
+      sound = λ never. (c.trials_under_tables_that_keep_going.ensures terms never lawful).sound_batch tree c.args.n c.in-Ok.results.items made;
+    }

@@ -1,4 +1,4 @@
-use Rattle.std.proofs.Common.{◌∙◌, ap, sym}
+use Rattle.std.proofs.Common.{◌∙◌, ap}
 use Rattle.world.specs.Keeping.{has_line}
 use Rattle.world.specs.View.{space_of, state_or}
 use Rattle.world.proofs.Visiting.{Kept, stays-or, steps-or}
@@ -13,10 +13,10 @@ kept c =
     record {
       below = c.requires.below;
       there = there;
-      others = c.touch_opened.ensures.others;
-      state = ap (state_or c.args.caches c.args.value) there ∙ c.touch_opened.ensures.state;
-      idle = λ none. (rw c.tables.ensures at c.touch_opened.ensures.idle) none ∙ sym c.requires.none;
-      lines = λ cache. ap (λ o. has_line (space_of o) cache) there ∙ c.touch_opened.ensures.lines cache;
+      others = c.touch_opened.ensures.touches.others;
+      state = ap (state_or c.args.caches c.args.value) there ∙ c.touch_opened.ensures.touches.state;
+      idle = λ none. (rw c.tables.ensures at c.touch_opened.ensures.touches.idle) none;
+      lines = λ cache. ap (λ o. has_line (space_of o) cache) there ∙ c.touch_opened.ensures.touches.lines cache;
     }
 
 pub returns-clause-ok : goal.returns-clause-ok

@@ -1,7 +1,10 @@
-use Rattle.std.proofs.Common.{◌≡◌, ◌<◌, ◌∙◌, ap, arith, sym, subst, length, set, refl}
+use Rattle.std.proofs.Common.{◌≡◌, ◌<◌, ◌∙◌, ap, arith, sym, subst, length, set, refl, take}
+use Rattle.std.proofs.Math.Seq.{take-length}
 use Rattle.std.proofs.lemmas.Grind.{common_steps}
+use Rattle.network.specs.Marks.{Marks}
 use Rattle.network.specs.Traffic.{Traffic, all_sent}
-use Rattle.blocks.proofs.Relinking.{messages-links}
+use Rattle.network.proofs.Sending.{requests-stay}
+use Rattle.blocks.proofs.Relinking.{messages-links, messages-marks}
 use Rattle.control.specs.LineEffect.{is_reader, is_writer, line_after, line_sends, requestor_of}
 use Rattle.control.specs.HomeEffect.{home_sends, sender_of}
 use Rattle.control.specs.Homes.{IsBelow}
@@ -43,7 +46,7 @@ invariant_of-self c =
     (held-at_line c.self.inside.lines.items c.in-AtLine.cache c.in-AtLine.line after c.in-AtLine.input c.in-AtLine.actions
     c.in-AtLine.origin old new c.self.inside.access.readers c.self.inside.access.writers c.self.invariant there requestor
     (ap lines_of c.perform-done.ensures.items) refl
-    (c.perform-done.ensures.traffic ∙ ap
+    (c.perform-done.ensures.sent.traffic ∙ ap
     (all_sent (line_sends c.in-AtLine.cache c.in-AtLine.input c.in-AtLine.actions c.in-AtLine.line)) c.take.ensures.traffic)))
 
 pub invariant_of-self-in-AtHome : goal.invariant_of-self-in-AtHome
@@ -65,14 +68,26 @@ invariant_of-self-in-AtHome c =
     subst (λ (k : BlockView). IsKeptIf k.space.lines (sender_of c.in-AtHome.input)) (sym c.self.view_is) named in
     held-at_home c.self.inside.lines.items c.in-AtHome.input c.in-AtHome.next c.in-AtHome.actions c.in-AtHome.origin old new
     c.self.inside.access.readers c.self.inside.access.writers c.self.invariant below sender refl c.home_perform.ensures.home
-    (c.home_perform.ensures.traffic ∙ ap (all_sent (home_sends c.in-AtHome.input c.in-AtHome.actions c.self.inside.home)) c.take-in-AtHome.ensures.traffic)
+    (c.home_perform.ensures.sent.traffic ∙ ap (all_sent (home_sends c.in-AtHome.input c.in-AtHome.actions c.self.inside.home)) c.take-in-AtHome.ensures.traffic)
 
 pub returns-in-AtLine-clause-links : goal.returns-in-AtLine-clause-links
 returns-in-AtLine-clause-links c own at =
     let here = rw c.in-AtLine.is at at in
     let links : c.perform-done.new.wires.traffic.links ≡ c.take.new.wires.traffic.links =
-    ap (λ (t : Traffic). t.links) c.perform-done.ensures.traffic ∙ messages-links c.in-AtLine.cache _ _ c.in-AtLine.actions c.take.new.wires.traffic in
-    rw (← c.self.view_is, c.perform-done.ensures.links, links) (c.take.ensures.links own here.1)
+    ap (λ (t : Traffic). t.links) c.perform-done.ensures.sent.traffic ∙ messages-links c.in-AtLine.cache _ _ c.in-AtLine.actions c.take.new.wires.traffic in
+    let marks : c.perform-done.new.wires.marks.links ≡ c.take.new.wires.marks.links =
+    ap (λ (m : Marks). m.links) c.perform-done.ensures.sent.marks ∙ messages-marks c.in-AtLine.cache _ _ c.in-AtLine.actions c.take.new.wires.marks in
+    rw (← c.self.view_is, marks, links) (c.take.ensures.links own here.1)
+
+pub returns-in-AtLine-clause-requests : goal.returns-in-AtLine-clause-requests
+returns-in-AtLine-clause-requests c own at =
+    let here = rw c.in-AtLine.is at at in
+    let same = c.take.ensures.requests own here.1 in
+    rw (← c.self.view_is, ← same)
+    (ap (λ (m : Marks). take (length c.take.new.wires.marks.requests) m.requests) c.perform-done.ensures.sent.marks
+    ∙ requests-stay (line_sends c.in-AtLine.cache c.in-AtLine.input c.in-AtLine.actions c.in-AtLine.line) c.take.new.wires.marks
+    (length c.take.new.wires.marks.requests) (omega arith)
+    ∙ take-length c.take.new.wires.marks.requests)
 
 pub returns-in-AtLine-clause-done : goal.returns-in-AtLine-clause-done
 returns-in-AtLine-clause-done c =

@@ -11,8 +11,9 @@ use Rattle.scenario.specs.Taking.{offers_in_turn, offers_of_all}
 use Rattle.scenario.specs.Tree as tree
 use Rattle.scenario.specs.Tree.{plain, plain_all}
 use Rattle.scenario.proofs.Children.{children, plain-Any, plain-Both, plain-Seq}
+use Rattle.cursors.proofs.Calls.{match-failed}
 use Rattle.cursors.proofs.Cursors.{parts, parts-row}
-use Rattle.scenario.proofs.Failing.{on_err-always, on_err-map, on_ok-failed, on_ok-map}
+use Rattle.scenario.proofs.Failing.{match-map}
 use Rattle.scenario.proofs.Fronts.{rest-whole}
 use Rattle.cursors.proofs.Leading.{depth-deepest, moves-any, moves-both, moves-row, moves-turn, same-set}
 use Rattle.scenario.proofs.Parting.{deeper_both, deeper_row, within_any, within_both, within_row}
@@ -62,97 +63,82 @@ start-start-requires g t c κs within =
     let inside = within_child ss c.args.at offer.child offer.at child at place in
     (omega (arith, whole, low, c.decreases), (within.0, (within.1, inside)))
 
-pub start_part-returns-clause-err : goal.start_part-returns-clause-err
-start_part-returns-clause-err g t c =
+pub start_part-returns-clause-moves : goal.start_part-returns-clause-moves
+start_part-returns-clause-moves g t c =
+    let long = c.in_ok-make_room.ensures.room in
+    match-map c.start.result
+    (λ _ h. (parts_of c.make_room.new.part, long, (progress c.start.new.part, grind (arith, common_steps, parts, map-set), h)))
+    (λ h.
     let items = c.in-Begun.parts.items in
     let within : c.args.number < length items = grind (arith, common_steps, parts, length-map) in
     let old = c.index_mut.result.now in
     let at : slice_get items c.args.number ≡ Some old = slice_get-get_or items c.args.number old within ∙ ap Some (search rules) in
-    on_err-map c.start.result _ _
-    (λ h. let same = same-set progress items c.args.number old c.start.new.part at h in grind (arith, common_steps, parts-row, same)) c.start.ensures.err
+    let same = same-set progress items c.args.number old c.start.new.part at h in
+    grind (arith, common_steps, parts-row, same))
+    c.start.ensures.moves
 
-pub start_part-returns-clause-ok : goal.start_part-returns-clause-ok
-start_part-returns-clause-ok g t c =
-    let long = c.in_ok-make_room.ensures.room in
-    on_ok-map c.start.result _ _ (λ h. (parts_of c.make_room.new.part, long, (progress c.start.new.part, grind (arith, common_steps, parts, map-set), h))) c.start.ensures.ok
-
-pub start-returns-in-Any-clause-ok : goal.start-returns-in-Any-clause-ok
-start-returns-in-Any-clause-ok g t c =
+pub start-returns-in-Any-clause-moves : goal.start-returns-in-Any-clause-moves
+start-returns-in-Any-clause-moves g t c =
     let offer = c.place_among-offer.result in
     let child = c.index.result.now in
     let ss = c.in-Any.children.items in
     let at = child_at ss c.as_slice-in-Any.result.now offer.child child c.as_slice-in-Any.ensures.value c.place_among-offer.ensures.within c.index.ensures in
     let place = subst (λ us. IsPlaceAmong us c.args.at offer.child offer.at) c.as_slice-in-Any.ensures.value c.place_among-offer.ensures.place in
     let whole = ap plain c.in-Any.is ∙ plain-Any c.in-Any.children in
-    on_ok-map c.start.result _ _
-    (λ h. subst (λ u. MovesTo u c.args.at (room u) (progress c.start.new.part)) (sym whole)
-    (moves-any ss c.args.at offer.child offer.at child (progress c.start.new.part) at place h)) c.start.ensures.ok
+    match-map c.start.result
+    (λ _ h. subst (λ u. MovesTo u c.args.at (room u) (progress c.start.new.part)) (sym whole)
+    (moves-any ss c.args.at offer.child offer.at child (progress c.start.new.part) at place h)) (λ h. h) c.start.ensures.moves
 
-pub start-returns-in-Seq-clause-ok : goal.start-returns-in-Seq-clause-ok
-start-returns-in-Seq-clause-ok g t c =
+pub start-returns-in-Seq-clause-moves : goal.start-returns-in-Seq-clause-moves
+start-returns-in-Seq-clause-moves g t c =
     let new = progress c.start_row.new.part in
     let whole = ap plain c.in-Seq.is ∙ (plain-Seq c.in-Seq.children ∙ ap (λ us. tree.Seq (plain_all us)) (sym c.as_slice.ensures.value)) in
-    on_ok-map c.start_row.result _ _
-    (λ h. subst (λ u. MovesTo u c.args.at (room u) new) (sym whole) h) c.start_row.ensures.ok
+    match-map c.start_row.result
+    (λ _ h. subst (λ u. MovesTo u c.args.at (room u) new) (sym whole) h) (λ h. h) c.start_row.ensures.moves
 
-pub start-returns-in-Both-clause-ok : goal.start-returns-in-Both-clause-ok
-start-returns-in-Both-clause-ok g t c =
+pub start-returns-in-Both-clause-moves : goal.start-returns-in-Both-clause-moves
+start-returns-in-Both-clause-moves g t c =
     let new = progress c.start_both.new.part in
     let whole = ap plain c.in-Both.is ∙ (plain-Both c.in-Both.children ∙ ap (λ us. tree.Both (plain_all us)) (sym c.as_slice-in-Both.ensures.value)) in
-    on_ok-map c.start_both.result _ _ (λ h. subst (λ u. MovesTo u c.args.at (room u) new) (sym whole) h) c.start_both.ensures.ok
+    match-map c.start_both.result (λ _ h. subst (λ u. MovesTo u c.args.at (room u) new) (sym whole) h) (λ h. h) c.start_both.ensures.moves
 
-pub start_row-returns-clause-ok : goal.start_row-returns-clause-ok
-start_row-returns-clause-ok g t c =
+pub start_row-returns-clause-moves : goal.start_row-returns-clause-moves
+start_row-returns-clause-moves g t c =
     let offer = c.place_in_turn-offer.result in
     let child = c.index-children-offer.result in
     let ss = c.args.children.now in
     let at = child_at ss ss offer.child child refl c.place_in_turn-offer.ensures.within c.index-children-offer.is in
-    let b = c.in_ok-start_part.ensures.ok in
+    let b = c.in_ok-start_part.ensures.moves in
     let now : progress c.move_to.new.self ≡ InSeq (first_part (parts_of c.start_part.new.part)) (plain_all (drop (offer.child + 1) ss)) =
     c.move_to.ensures.place ∙ ap (λ us. InSeq (first_part (parts_of c.start_part.new.part)) (plain_all us)) (rest-whole ss (offer.child + 1)) in
     rw now (moves-row ss c.args.at offer.child offer.at child b.0 (parts_of c.start_part.new.part) at b.1 c.place_in_turn-offer.ensures.place b.2)
 
-pub start_turn-returns-clause-ok : goal.start_turn-returns-clause-ok
-start_turn-returns-clause-ok g t c =
-    let b = c.in_ok-start_part.ensures.ok in
+pub start_turn-returns-clause-moves : goal.start_turn-returns-clause-moves
+start_turn-returns-clause-moves g t c =
+    let b = c.in_ok-start_part.ensures.moves in
     rw c.move_to.ensures.place (moves-turn c.args.turns (plain c.args.child.now) c.args.at b.0 (parts_of c.start_part.new.part) b.1 b.2)
 
-pub start_both-returns-clause-ok : goal.start_both-returns-clause-ok
-start_both-returns-clause-ok g t c =
+pub start_both-returns-clause-moves : goal.start_both-returns-clause-moves
+start_both-returns-clause-moves g t c =
     let offer = c.place_among-offer.result in
     let child = c.index-children-offer.result in
     let ss = c.args.children.now in
     let at = child_at ss ss offer.child child refl c.place_among-offer.ensures.within c.index-children-offer.is in
-    let b = c.in_ok-start_part.ensures.ok in
+    let b = c.in_ok-start_part.ensures.moves in
     rw c.move_to.ensures.place (moves-both ss c.args.at offer.child offer.at child b.0 (parts_of c.start_part.new.part)
     (parts_of c.keep_others.new.part) at b.1 c.place_among-offer.ensures.place b.2 c.keep_others.ensures.whole)
 
-pub start-returns-in-One-clause-ok : goal.start-returns-in-One-clause-ok
-start-returns-in-One-clause-ok g t c =
+pub start-returns-in-One-clause-moves : goal.start-returns-in-One-clause-moves
+start-returns-in-One-clause-moves g t c =
     let new : progress c.move_to.new.self ≡ Nothing = c.move_to.ensures.place in
     let whole = ap plain c.in-One.is in
     rw (new, whole) (refl, tt)
 
-pub start-returns-in-One-clause-err : goal.start-returns-in-One-clause-err
-start-returns-in-One-clause-err g t c = tt
-
-pub start-returns-in-Seq-clause-err : goal.start-returns-in-Seq-clause-err
-start-returns-in-Seq-clause-err g t c = c.start_row.ensures.err
-
-pub start-returns-in-Any-clause-err : goal.start-returns-in-Any-clause-err
-start-returns-in-Any-clause-err g t c = c.start.ensures.err
-
-pub start-returns-in-Times-clause-ok : goal.start-returns-in-Times-clause-ok
-start-returns-in-Times-clause-ok g t c =
+pub start-returns-in-Times-clause-moves : goal.start-returns-in-Times-clause-moves
+start-returns-in-Times-clause-moves g t c =
     let new = progress c.start_turn.new.part in
     let whole : plain c.args.tree.now ≡ tree.Times c.in-Times.turns (plain c.deref.result.now) = grind (arith, common_steps) in
-    on_ok-map c.start_turn.result _ _ (λ h. subst (λ u. MovesTo u c.args.at (room u) new) (sym whole) h) c.start_turn.ensures.ok
-
-pub start-returns-in-Times-clause-err : goal.start-returns-in-Times-clause-err
-start-returns-in-Times-clause-err g t c = c.start_turn.ensures.err
-
-pub start-returns-in-Both-clause-err : goal.start-returns-in-Both-clause-err
-start-returns-in-Both-clause-err g t c = c.start_both.ensures.err
+    match-map c.start_turn.result (λ _ h. subst (λ u. MovesTo u c.args.at (room u) new) (sym whole) h) (λ h. h) c.start_turn.ensures.moves
 
 pub start-place_among-offer-requires : goal.start-place_among-offer-requires
 start-place_among-offer-requires g t c =
@@ -178,39 +164,21 @@ start-start_both-requires g t c κs within =
     let inside = within_both c.args.tree.now c.in-Both.children c.in-Both.children c.args.at c.in-Both.is refl c.requires in
     (omega (arith, low, c.decreases), (within.0, (within.1, subst (λ us. c.args.at < length (offers_of_all (plain_all us))) same inside)))
 
-pub start_both-returns-in_err-start_part-clause-ok : goal.start_both-returns-in_err-start_part-clause-ok
-start_both-returns-in_err-start_part-clause-ok g t c = on_ok-failed _ _ c.from_residual.ensures.0
+pub start_both-returns-in_err-start_part-clause-moves : goal.start_both-returns-in_err-start_part-clause-moves
+start_both-returns-in_err-start_part-clause-moves g t c = match-failed _ _ _ c.from_residual.ensures.0 c.in_err-start_part.ensures.moves
 
-pub start_both-returns-in_err-start_part-clause-err : goal.start_both-returns-in_err-start_part-clause-err
-start_both-returns-in_err-start_part-clause-err g t c = on_err-always _ _ c.in_err-start_part.ensures.err
+pub start_row-returns-in_err-start_part-clause-moves : goal.start_row-returns-in_err-start_part-clause-moves
+start_row-returns-in_err-start_part-clause-moves g t c = match-failed _ _ _ c.from_residual.ensures.0 c.in_err-start_part.ensures.moves
 
-pub start_both-returns-clause-err : goal.start_both-returns-clause-err
-start_both-returns-clause-err g t c = tt
-
-pub start_row-returns-in_err-start_part-clause-ok : goal.start_row-returns-in_err-start_part-clause-ok
-start_row-returns-in_err-start_part-clause-ok g t c = on_ok-failed _ _ c.from_residual.ensures.0
-
-pub start_row-returns-in_err-start_part-clause-err : goal.start_row-returns-in_err-start_part-clause-err
-start_row-returns-in_err-start_part-clause-err g t c = on_err-always _ _ c.in_err-start_part.ensures.err
-
-pub start_row-returns-clause-err : goal.start_row-returns-clause-err
-start_row-returns-clause-err g t c = tt
-
-pub start_turn-returns-in_err-start_part-clause-ok : goal.start_turn-returns-in_err-start_part-clause-ok
-start_turn-returns-in_err-start_part-clause-ok g t c = on_ok-failed _ _ c.from_residual.ensures.0
-
-pub start_turn-returns-in_err-start_part-clause-err : goal.start_turn-returns-in_err-start_part-clause-err
-start_turn-returns-in_err-start_part-clause-err g t c = on_err-always _ _ c.in_err-start_part.ensures.err
-
-pub start_turn-returns-clause-err : goal.start_turn-returns-clause-err
-start_turn-returns-clause-err g t c = tt
+pub start_turn-returns-in_err-start_part-clause-moves : goal.start_turn-returns-in_err-start_part-clause-moves
+start_turn-returns-in_err-start_part-clause-moves g t c = match-failed _ _ _ c.from_residual.ensures.0 c.in_err-start_part.ensures.moves
 
 pub start_both-keep_others-requires-clause-part : goal.start_both-keep_others-requires-clause-part
 start_both-keep_others-requires-clause-part g t c = c.place_among-offer.ensures.within
 
 pub start_both-keep_others-requires-clause-room : goal.start_both-keep_others-requires-clause-room
 start_both-keep_others-requires-clause-room g t c =
-    let b = c.in_ok-start_part.ensures.ok in
+    let b = c.in_ok-start_part.ensures.moves in
     let same = ap length b.2.1 in
     grind (arith, length-set, b.1, same)
 
@@ -320,11 +288,8 @@ start_part-returns-clause-held g t c most was bare wanted =
     let all = adds-one stock items c.args.number old c.start.new.part (room (plain c.args.tree.now)) at c.start.ensures.held most before wanted in
     grind (arith, common_steps, parts, all)
 
-pub start_part-returns-in_err-make_room-clause-ok : goal.start_part-returns-in_err-make_room-clause-ok
-start_part-returns-in_err-make_room-clause-ok g t c = on_ok-failed _ _ c.from_residual.ensures.0
-
-pub start_part-returns-in_err-make_room-clause-err : goal.start_part-returns-in_err-make_room-clause-err
-start_part-returns-in_err-make_room-clause-err g t c = on_err-always _ _ c.make_room.ensures.same
+pub start_part-returns-in_err-make_room-clause-moves : goal.start_part-returns-in_err-make_room-clause-moves
+start_part-returns-in_err-make_room-clause-moves g t c = match-failed _ _ _ c.from_residual.ensures.0 c.make_room.ensures.same
 
 pub start_part-returns-in_err-make_room-clause-held : goal.start_part-returns-in_err-make_room-clause-held
 start_part-returns-in_err-make_room-clause-held g t c most was bare wanted = c.make_room.ensures.held most was bare

@@ -8,7 +8,7 @@ use Rattle.cursors.specs.inner.Parts.{count_at, holding, parts_of, place_of}
 use Rattle.scenario.specs.Taking.{offers, offers_of_all}
 use Rattle.scenario.specs.Tree.{trees_of}
 use Rattle.cursors.proofs.Cursors.{map-left, parts, parts-Begun, parts-row}
-use Rattle.scenario.proofs.Failing.{on_err-map, on_ok-map}
+use Rattle.scenario.proofs.Failing.{match-map}
 use Rattle.cursors.proofs.Going.{found-in-use, goes-behind, goes-part, height-at, none-in-use, offered-behind, part-wanted, rest-wanted, some-same}
 use Rattle.scenario.proofs.Items.{get-map}
 use Rattle.cursors.proofs.Leading.{same-set}
@@ -21,12 +21,12 @@ take_from-go_on-requires g t c =
     let is = c.in-Err.ensures.err ∙ ap (λ ts. length (offers_of_all (trees_of ts)) + c.in-Err.further) (map-left c.in_use.result.now) in
     offered-behind c.args.part.now _ c.in_use.ensures.parts c.args.at c.in-Err.further c.requires is
 
-pub take_from-returns-in-Err-clause-ok : goal.take_from-returns-in-Err-clause-ok
-take_from-returns-in-Err-clause-ok g t c =
+pub take_from-returns-in-Err-clause-moves : goal.take_from-returns-in-Err-clause-moves
+take_from-returns-in-Err-clause-moves g t c =
     let is = c.in-Err.ensures.err ∙ ap (λ ts. length (offers_of_all (trees_of ts)) + c.in-Err.further) (map-left c.in_use.result.now) in
     let low = offered-behind c.args.part.now _ c.in_use.ensures.parts c.args.at c.in-Err.further c.requires is in
-    on_ok-map c.go_on.result _ _
-    (goes-behind c.args.part.now _ c.in_use.ensures.parts c.args.at c.in-Err.further (progress c.go_on.new.part) low is) c.go_on.ensures.ok
+    match-map c.go_on.result
+    (λ _. goes-behind c.args.part.now _ c.in_use.ensures.parts c.args.at c.in-Err.further (progress c.go_on.new.part) low is) (λ h. h) c.go_on.ensures.moves
 
 pub take_from-take_from_part-requires : goal.take_from-take_from_part-requires
 take_from-take_from_part-requires g t c κs within =
@@ -36,13 +36,13 @@ take_from-take_from_part-requires g t c κs within =
     let low = there.5 in
     (grind (arith, common_steps, high, low), (search rules, (search rules, (there.0, there.1, there.3))))
 
-pub take_from-returns-in-Ok-clause-ok : goal.take_from-returns-in-Ok-clause-ok
-take_from-returns-in-Ok-clause-ok g t c =
+pub take_from-returns-in-Ok-clause-moves : goal.take_from-returns-in-Ok-clause-moves
+take_from-returns-in-Ok-clause-moves g t c =
     let there = found-in-use c.in_use.result.now (parts_of c.args.part.now) (count_at (place_of c.args.part.now)) c.args.at
     c.in-Ok.offer.child c.in-Ok.offer.at c.in_use.ensures.parts c.in-Ok.ensures.ok in
-    on_ok-map c.take_from_part.result _ _
-    (goes-part c.args.part.now c.take_from_part.new.part c.args.at c.in-Ok.offer.child c.in-Ok.offer.at _ c.take_from_part.ensures.place there)
-    c.take_from_part.ensures.ok
+    match-map c.take_from_part.result
+    (λ _. goes-part c.args.part.now c.take_from_part.new.part c.args.at c.in-Ok.offer.child c.in-Ok.offer.at _ c.take_from_part.ensures.place there)
+    (λ h. h) c.take_from_part.ensures.moves
 
 pub take_from_part-index_mut-requires : goal.take_from_part-index_mut-requires
 take_from_part-index_mut-requires g t c =
@@ -68,23 +68,10 @@ take_from_part-take_from-requires g t c κs within =
     let low = subst (λ (x : Progress). c.args.at < length (offers (tree_left x))) is_old c.requires.2 in
     grind (arith, common_steps, high, low)
 
-pub take_from_part-returns-clause-err : goal.take_from_part-returns-clause-err
-take_from_part-returns-clause-err g t c =
-    let items = c.in-Begun.parts.items in
-    let inside = slice_get_within (parts_of c.args.part.now) c.args.number c.requires.0 c.requires.1 in
-    let within : c.args.number < length items = grind (arith, common_steps, parts, length-map, inside) in
-    let old = c.index_mut.result.now in
-    let at : slice_get items c.args.number ≡ Some old = slice_get-get_or items c.args.number old within ∙ ap Some (search rules) in
-    on_err-map c.take_from.result _ _
-    (λ h.
-    let same = same-set progress items c.args.number old c.take_from.new.part at h in
-    grind (arith, common_steps, parts-row, same))
-    c.take_from.ensures.err
-
-pub take_from_part-returns-clause-ok : goal.take_from_part-returns-clause-ok
-take_from_part-returns-clause-ok g t c =
-    on_ok-map c.take_from.result _ _
-    (λ h. (
+pub take_from_part-returns-clause-moves : goal.take_from_part-returns-clause-moves
+take_from_part-returns-clause-moves g t c =
+    match-map c.take_from.result
+    (λ _ h. (
       progress c.index_mut.result.now,
       progress c.take_from.new.part,
       (let items = c.in-Begun.parts.items in
@@ -96,13 +83,16 @@ take_from_part-returns-clause-ok g t c =
           ∙ get-map progress items c.args.number old at),
       grind (arith, common_steps, parts, map-set),
       h,
-    )) c.take_from.ensures.ok
-
-pub take_from-returns-in-Err-clause-err : goal.take_from-returns-in-Err-clause-err
-take_from-returns-in-Err-clause-err g t c = c.go_on.ensures.err
-
-pub take_from-returns-in-Ok-clause-err : goal.take_from-returns-in-Ok-clause-err
-take_from-returns-in-Ok-clause-err g t c = c.take_from_part.ensures.err
+    ))
+    (λ h.
+    let items = c.in-Begun.parts.items in
+    let inside = slice_get_within (parts_of c.args.part.now) c.args.number c.requires.0 c.requires.1 in
+    let within : c.args.number < length items = grind (arith, common_steps, parts, length-map, inside) in
+    let old = c.index_mut.result.now in
+    let at : slice_get items c.args.number ≡ Some old = slice_get-get_or items c.args.number old within ∙ ap Some (search rules) in
+    let same = same-set progress items c.args.number old c.take_from.new.part at h in
+    grind (arith, common_steps, parts-row, same))
+    c.take_from.ensures.moves
 
 pub take_from_part-unreachable-unreachable : goal.take_from_part-unreachable-unreachable
 take_from_part-unreachable-unreachable g t c = grind (arith, common_steps)

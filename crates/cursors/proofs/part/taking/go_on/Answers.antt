@@ -4,7 +4,7 @@ use Rattle.cursors.specs.Cursors.{progress}
 use Rattle.cursors.specs.inner.Parts.{MovesTo, behind, wants_behind, place_of}
 use Rattle.scenario.specs.Taking.{offers}
 use Rattle.scenario.specs.Tree.{plain}
-use Rattle.scenario.proofs.Failing.{on_ok-map}
+use Rattle.scenario.proofs.Failing.{match-map}
 use Rattle.cursors.proofs.Going.{none-behind, turn-offered}
 use Rattle.cursors.proofs.part.taking.go_on.Goals as goal
 
@@ -27,29 +27,23 @@ start_turn-requires-clause-offer g c =
     let low = subst (λ at. c.args.at < length (offers (behind at))) (sym c.place.ensures ∙ c.in-InTimes.is) c.requires in
     (turn-offered c.in-InTimes.turns (plain c.in-InTimes.child.now) c.args.at low).1
 
-pub returns-in-Whole-clause-ok : goal.returns-in-Whole-clause-ok
-returns-in-Whole-clause-ok g c =
+pub returns-in-Whole-clause-moves : goal.returns-in-Whole-clause-moves
+returns-in-Whole-clause-moves g c =
     let is = sym (sym c.place.ensures ∙ c.in-Whole.is) in
     let new = progress c.start.new.part in
-    on_ok-map c.start.result _ _ (λ h. subst (λ at. MovesTo (behind at) c.args.at (wants_behind at) new) is h) c.start.ensures.ok
+    match-map c.start.result (λ _ h. subst (λ at. MovesTo (behind at) c.args.at (wants_behind at) new) is h) (λ h. h) c.start.ensures.moves
 
-pub returns-in-InSeq-clause-ok : goal.returns-in-InSeq-clause-ok
-returns-in-InSeq-clause-ok g c =
+pub returns-in-InSeq-clause-moves : goal.returns-in-InSeq-clause-moves
+returns-in-InSeq-clause-moves g c =
     let is = sym (sym c.place.ensures ∙ c.in-InSeq.is) in
     let new = progress c.start_row.new.part in
-    on_ok-map c.start_row.result _ _ (λ h. subst (λ at. MovesTo (behind at) c.args.at (wants_behind at) new) is h) c.start_row.ensures.ok
+    match-map c.start_row.result (λ _ h. subst (λ at. MovesTo (behind at) c.args.at (wants_behind at) new) is h) (λ h. h) c.start_row.ensures.moves
+
+pub returns-in-InTimes-clause-moves : goal.returns-in-InTimes-clause-moves
+returns-in-InTimes-clause-moves g c =
+    let is = sym (sym c.place.ensures ∙ c.in-InTimes.is) in
+    let new = progress c.start_turn.new.part in
+    match-map c.start_turn.result (λ _ h. subst (λ at. MovesTo (behind at) c.args.at (wants_behind at) new) is h) (λ h. h) c.start_turn.ensures.moves
 
 pub unreachable-unreachable : goal.unreachable-unreachable
 unreachable-unreachable g c = grind (arith, common_steps)
-
-pub returns-in-Whole-clause-err : goal.returns-in-Whole-clause-err
-returns-in-Whole-clause-err g c = grind (arith, common_steps)
-
-pub returns-in-InSeq-clause-err : goal.returns-in-InSeq-clause-err
-returns-in-InSeq-clause-err g c = grind (arith, common_steps)
-
-pub returns-in-InTimes-clause-ok : goal.returns-in-InTimes-clause-ok
-returns-in-InTimes-clause-ok g c = grind (arith, common_steps)
-
-pub returns-in-InTimes-clause-err : goal.returns-in-InTimes-clause-err
-returns-in-InTimes-clause-err g c = grind (arith, common_steps)

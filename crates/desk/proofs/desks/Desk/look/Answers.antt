@@ -20,23 +20,8 @@ invariant_of-seat g c =
 pub len-requires : goal.len-requires
 len-requires g c κs = search rules
 
-pub returns-then-place-len-clause-some : goal.returns-then-place-len-clause-some
-returns-then-place-len-clause-some g c = grind (arith, common_steps)
-
-pub returns-then-place-len-clause-own : goal.returns-then-place-len-clause-own
-returns-then-place-len-clause-own g c = grind (arith, common_steps)
-
-pub returns-then-place-len-clause-again : goal.returns-then-place-len-clause-again
-returns-then-place-len-clause-again g c = grind (arith, common_steps)
-
-pub returns-then-place-len-clause-none : goal.returns-then-place-len-clause-none
-returns-then-place-len-clause-none g c = grind (arith, common_steps)
-
-pub returns-then-place-len-clause-others : goal.returns-then-place-len-clause-others
-returns-then-place-len-clause-others g c = grind (arith, common_steps)
-
-pub returns-then-place-len-clause-same : goal.returns-then-place-len-clause-same
-returns-then-place-len-clause-same g c = grind (arith, common_steps)
+pub returns-then-place-len : goal.returns-then-place-len
+returns-then-place-len g c = grind (arith, common_steps)
 
 pub get_at-requires-clause-same : goal.get_at-requires-clause-same
 get_at-requires-clause-same g c = grind (arith, common_steps)
@@ -44,20 +29,5 @@ get_at-requires-clause-same g c = grind (arith, common_steps)
 pub get_at-requires-clause-within : goal.get_at-requires-clause-within
 get_at-requires-clause-within g c = grind (arith, common_steps)
 
-pub returns-clause-some : goal.returns-clause-some
-returns-clause-some g c = grind (arith, common_steps)
-
-pub returns-clause-own : goal.returns-clause-own
-returns-clause-own g c = grind (arith, common_steps)
-
-pub returns-clause-again : goal.returns-clause-again
-returns-clause-again g c = grind (arith, common_steps)
-
-pub returns-clause-none : goal.returns-clause-none
-returns-clause-none g c = grind (arith, common_steps)
-
-pub returns-clause-others : goal.returns-clause-others
-returns-clause-others g c = grind (arith, common_steps)
-
-pub returns-clause-same : goal.returns-clause-same
-returns-clause-same g c = grind (arith, common_steps)
+pub returns : goal.returns
+returns g c = grind (arith, common_steps)

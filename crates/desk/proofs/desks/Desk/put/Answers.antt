@@ -12,7 +12,7 @@ pub invariant_of-seat-2 : goal.invariant_of-seat-2
 invariant_of-seat-2 g c =
     let i = c.seat.inside in
     let k = c.args.number in
-    let there : 0 < times k i.token.me.0.drawn = subst (λ (l : List ℕ). 0 < times k l) (sym (ap (λ s. s.claimed) c.seat.view_is)) c.requires.claimed in
+    let there : 0 < times k i.token.me.0.drawn = subst (λ (l : List ℕ). 0 < times k l) (sym (ap (λ s. s.claimed) c.seat.view_is)) c.requires.can.0 in
     let lt : k < length i.notes.items = c.seat.invariant.below k there in
     let mine : get_or (map is_claimed i.stages.items) k false ≡ true = c.seat.invariant.claims_are k lt ∙ sym (true_above _ there) in
     let long = long_same (λ n. n.cell) c.set_at.new.notes.items i.notes.items c.set_at.ensures.cells in
@@ -21,55 +21,33 @@ invariant_of-seat-2 g c =
     (sym long)
     (posted_kept i.token.me (length i.notes.items) i.told i.stages.items (map (λ n. n.known) i.notes.items)
     (map (λ n. n.known) c.set_at.new.notes.items) k c.args.made c.seat.invariant lt mine
-    c.requires.made.numbered
+    c.requires.made.1.numbered
     (c.set_at.ensures.set c.if-not-set_at.false ∙ ap (λ v. slice_set (map (λ n. n.known) i.notes.items) k (Some v)) c.in-Ok.ensures.ok))
 
-pub returns-clause-put : goal.returns-clause-put
-returns-clause-put g c = λ _.
+pub returns : goal.returns
+returns g c =
     let i = c.seat.inside in
     let k = c.args.number in
-    post_seen i.token.table_id (map (λ n. n.cell) i.notes.items) (map (λ n. n.cell) c.set_at.new.notes.items) i.token.me.0.drawn i.told
-    (map is_posted i.stages.items)
-    (map is_posted (slice_set i.stages.items k Posted))
-    (map (λ n. n.known) i.notes.items)
-    (map (λ n. n.known) c.set_at.new.notes.items)
-    k
-    c.args.made
-    c.args.seat.now
-    c.seat.view_is
-    c.set_at.ensures.cells
-    (posts_posted i.stages.items k)
-    (c.set_at.ensures.set c.if-not-set_at.false ∙ ap (λ v. slice_set (map (λ n. n.known) i.notes.items) k (Some v)) c.in-Ok.ensures.ok)
-
-pub returns-clause-posted : goal.returns-clause-posted
-returns-clause-posted g c = λ _.
-    let i = c.seat.inside in
-    let k = c.args.number in
-    let there : 0 < times k i.token.me.0.drawn = subst (λ (l : List ℕ). 0 < times k l) (sym (ap (λ s. s.claimed) c.seat.view_is)) c.requires.claimed in
+    let set = c.set_at.ensures.set c.if-not-set_at.false ∙ ap (λ v. slice_set (map (λ n. n.known) i.notes.items) k (Some v)) c.in-Ok.ensures.ok in
+    let there : 0 < times k i.token.me.0.drawn = subst (λ (l : List ℕ). 0 < times k l) (sym (ap (λ s. s.claimed) c.seat.view_is)) c.requires.can.0 in
     let lt = c.seat.invariant.below k there in
     let within : k < length (map is_posted i.stages.items) = omega (arith, lt, c.seat.invariant.posts_length) in
-    ap (λ l. get_or l k false) (posts_posted i.stages.items k) ∙ get_or-set_same (map is_posted i.stages.items) k true false within
+    record {
+      could = c.requires.can;
+      first = grind (arith, common_steps);
+      posts = post_seen i.token.table_id (map (λ n. n.cell) i.notes.items) (map (λ n. n.cell) c.set_at.new.notes.items) i.token.me.0.drawn i.told
+          (map is_posted i.stages.items) (map is_posted (slice_set i.stages.items k Posted)) (map (λ n. n.known) i.notes.items)
+          (map (λ n. n.known) c.set_at.new.notes.items) k c.args.made c.args.seat.now c.seat.view_is c.set_at.ensures.cells
+          (posts_posted i.stages.items k) set;
+      posted = ap (λ l. get_or l k false) (posts_posted i.stages.items k) ∙ get_or-set_same (map is_posted i.stages.items) k true false within;
+      known = grind (arith, common_steps);
+    }
 
 pub invariant_of-posted : goal.invariant_of-posted
 invariant_of-posted g c = grind (arith, common_steps)
 
 pub new-requires : goal.new-requires
 new-requires g c κs = search rules
-
-pub returns-in_default-clause-put : goal.returns-in_default-clause-put
-returns-in_default-clause-put g c = grind (arith, common_steps)
-
-pub returns-in_default-clause-posted : goal.returns-in_default-clause-posted
-returns-in_default-clause-posted g c = grind (arith, common_steps)
-
-pub returns-in_default-clause-known : goal.returns-in_default-clause-known
-returns-in_default-clause-known g c = grind (arith, common_steps)
-
-pub returns-in_default-clause-first : goal.returns-in_default-clause-first
-returns-in_default-clause-first g c = grind (arith, common_steps)
-
-pub returns-in_default-clause-not_put : goal.returns-in_default-clause-not_put
-returns-in_default-clause-not_put g c = grind (arith, common_steps)
 
 pub set_at-requires-clause-same : goal.set_at-requires-clause-same
 set_at-requires-clause-same g c = grind (arith, common_steps)
@@ -80,29 +58,11 @@ set_at-requires-clause-within g c = grind (arith, common_steps)
 pub invariant_of-seat : goal.invariant_of-seat
 invariant_of-seat g c = grind (arith, common_steps)
 
-pub returns-then-not-set_at-clause-put : goal.returns-then-not-set_at-clause-put
-returns-then-not-set_at-clause-put g c = grind (arith, common_steps)
-
-pub returns-then-not-set_at-clause-posted : goal.returns-then-not-set_at-clause-posted
-returns-then-not-set_at-clause-posted g c = grind (arith, common_steps)
-
-pub returns-then-not-set_at-clause-known : goal.returns-then-not-set_at-clause-known
-returns-then-not-set_at-clause-known g c = grind (arith, common_steps)
-
-pub returns-then-not-set_at-clause-first : goal.returns-then-not-set_at-clause-first
-returns-then-not-set_at-clause-first g c = grind (arith, common_steps)
-
-pub returns-then-not-set_at-clause-not_put : goal.returns-then-not-set_at-clause-not_put
-returns-then-not-set_at-clause-not_put g c = grind (arith, common_steps)
-
 pub index_mut-requires : goal.index_mut-requires
 index_mut-requires g c = grind (arith, common_steps)
 
-pub returns-clause-known : goal.returns-clause-known
-returns-clause-known g c = grind (arith, common_steps)
+pub returns-in_default : goal.returns-in_default
+returns-in_default g c = grind (arith, common_steps)
 
-pub returns-clause-first : goal.returns-clause-first
-returns-clause-first g c = grind (arith, common_steps)
-
-pub returns-clause-not_put : goal.returns-clause-not_put
-returns-clause-not_put g c = grind (arith, common_steps)
+pub returns-then-not-set_at : goal.returns-then-not-set_at
+returns-then-not-set_at g c = grind (arith, common_steps)

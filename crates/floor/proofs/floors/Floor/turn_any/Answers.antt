@@ -1,12 +1,8 @@
-use Rattle.std.proofs.Common.{arith}
-use Rattle.std.proofs.lemmas.Grind.{common_steps}
+use Rattle.floor.proofs.Calling.{received_any, was_draw_refused}
 use Rattle.floor.proofs.floors.Floor.turn_any.Goals as goal
 
-pub returns-clause-added : goal.returns-clause-added
-returns-clause-added g c = grind (arith, common_steps)
-
-pub returns-clause-none : goal.returns-clause-none
-returns-clause-none g c = grind (arith, common_steps)
+pub returns-clause-ok : goal.returns-clause-ok
+returns-clause-ok g c = received_any _ _ _ _ _ _ _ c.turn_any.ensures.ok
 
 pub returns-clause-err : goal.returns-clause-err
-returns-clause-err g c = grind (arith, common_steps)
+returns-clause-err g c = was_draw_refused _ _ _ _ _ _ c.turn_any.ensures.err

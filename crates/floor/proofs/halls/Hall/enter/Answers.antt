@@ -1,9 +1,10 @@
 use Rattle.std.proofs.Common.{◌<◌, ◌∙◌, ap, length, subst, sym, arith}
 use Rattle.record.specs.View.{RecordingView}
 use Rattle.std.proofs.lemmas.Grind.{common_steps}
+use Rattle.floor.specs.SeatCalling.{IsMoment}
 use Rattle.floor.specs.inner.Keeping.{IsKeptUp}
 use Rattle.floor.proofs.Entering.{kept_more, fits_more}
-use Rattle.floor.proofs.SeatCalling.{found, told}
+use Rattle.floor.proofs.SeatCalling.{are_tied, found, told}
 use Rattle.floor.proofs.Recounting.{level_behind, shared_behind}
 use Rattle.floor.proofs.halls.Hall.enter.Goals as goal
 use Rattle.floor.proofs.halls.Hall.enter.Given.{Over}
@@ -27,6 +28,19 @@ kept g c =
     (ap length c.entries.ensures.value)
     (grind (arith, common_steps))
 
+-- what it finds is a moment
+moment : (g : Over) (c : After-push_reserved g) → IsMoment g.F.Naming.floor c.args.seat.now c.args.self.now.entries c.args.self.now.owners
+moment g c =
+    let i = c.self.inside in
+    found g.F.Naming.floor i.world i.watch i.recording i.owners.items i.violation c.seat.inside.number c.seat.inside.receipts.items
+    c.args.self.now c.args.seat.now
+    c.self.invariant.0
+    c.self.invariant.1.within
+    (told i.token.me c.seat.inside.token.me i.recording.entries i.owners.items g.F.Naming.floor.seats c.seat.inside.number
+    c.seat.inside.receipts.items c.self.invariant.1.keeps c.seat.invariant.sits c.add_entry.ensures.history)
+    c.self.view_is
+    c.seat.view_is
+
 pub invariant_of-self-2 : goal.invariant_of-self-2
 invariant_of-self-2 g c =
     let h = c.self.invariant.1 in (
@@ -42,13 +56,16 @@ invariant_of-self-2 g c =
             c.in-Ok.ensures.ok.recorded (ap (λ s. s.entries) c.self.view_is) c.requires.room;
         table_is = h.table_is;
         one = h.one;
-        token_is = grind (arith, common_steps);
-        keeps = grind (arith, common_steps);
+        token_is = (let added = c.add_entry.ensures.added in grind (arith, common_steps, added.table));
+        keeps = (let added = c.add_entry.ensures.added in grind (arith, common_steps, added.hall_has));
       },
     )
 
 pub returns-clause-ok : goal.returns-clause-ok
 returns-clause-ok g c = record {
+  moment = moment g (goal.at.returns-clause-ok g c).After-push_reserved;
+  own = c.requires.yours;
+  room = c.requires.room;
   number = grind (arith, common_steps);
   entry = grind (arith, common_steps);
   entries = grind (arith, common_steps);
@@ -88,7 +105,9 @@ pub returns-in_default-advance-clause-err : goal.returns-in_default-advance-clau
 returns-in_default-advance-clause-err g c = grind (arith, common_steps)
 
 pub invariant_of-seat-2 : goal.invariant_of-seat-2
-invariant_of-seat-2 g c = grind (arith, common_steps)
+invariant_of-seat-2 g c =
+    let added = c.add_entry.ensures.added in
+    grind (arith, common_steps, added.seat_has, added.table)
 
 pub returns-clause-else_memory : goal.returns-clause-else_memory
 returns-clause-else_memory g c = grind (arith, common_steps)
@@ -97,26 +116,21 @@ pub returns-clause-err : goal.returns-clause-err
 returns-clause-err g c = grind (arith, common_steps)
 
 pub returns-clause-moment : goal.returns-clause-moment
-returns-clause-moment g c =
+returns-clause-moment g c = moment g (goal.at.returns-clause-moment g c).After-push_reserved
+
+pub add_entry-requires : goal.add_entry-requires
+add_entry-requires g c =
     let i = c.self.inside in
-    found g.F.Naming.floor i.world i.watch i.recording i.owners.items i.violation c.seat.inside.number c.seat.inside.receipts.items
-    c.args.self.now c.args.seat.now
-    c.self.invariant.0
-    c.self.invariant.1.within
-    (told i.token.me c.seat.inside.token.me i.recording.entries i.owners.items g.F.Naming.floor.seats c.seat.inside.number
-    c.seat.inside.receipts.items c.self.invariant.1.keeps c.seat.invariant.sits c.add_entry.ensures.history)
-    c.self.view_is
-    c.seat.view_is
+    let h = c.self.invariant.1 in
+    are_tied g.F.Naming.floor i.log.shared.table_id i.token c.seat.inside.token i.recording.entries i.owners.items c.seat.inside.number
+    c.seat.inside.receipts.items h.table_is h.one h.token_is h.keeps c.seat.invariant.token_is c.seat.invariant.sits
 
 pub advance-requires : goal.advance-requires
 advance-requires g c =
     subst (λ n. c.seat.inside.number < n) (sym (ap (λ (r : RecordingView). r.seats) c.self.invariant.0.recorded_is)) c.seat.invariant.within
 
-pub recount-requires-clause-some : goal.recount-requires-clause-some
-recount-requires-clause-some g c = grind (arith, common_steps)
-
-pub recount-requires-clause-few : goal.recount-requires-clause-few
-recount-requires-clause-few g c = grind (arith, common_steps)
+pub recount-requires-clause-size : goal.recount-requires-clause-size
+recount-requires-clause-size g c = (grind (arith, common_steps), grind (arith, common_steps))
 
 pub recount-requires-clause-count : goal.recount-requires-clause-count
 recount-requires-clause-count g c = c.self.invariant.1.shared.count ∙ sym c.self.invariant.1.seats_is

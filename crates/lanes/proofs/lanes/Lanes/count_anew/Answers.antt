@@ -1,7 +1,7 @@
 use Rattle.std.proofs.Common.{◌<◌, ℕ, IfSome, Option, length, subst, arith}
 use Rattle.std.proofs.lemmas.Grind.{common_steps}
 use Rattle.lanes.specs.Lanes.{laned}
-use Rattle.lanes.proofs.Counting.{counted-already, kept-counts}
+use Rattle.lanes.proofs.Counting.{counted-already}
 use Rattle.lanes.proofs.lanes.Lanes.count_anew.Goals as goal
 
 pub returns-then-is_reached-clause-each : goal.returns-then-is_reached-clause-each
@@ -10,9 +10,6 @@ returns-then-is_reached-clause-each g c lane low =
     let there = subst (λ (o : Option ℕ). IfSome o (λ l. l < length (laned c.args.self.now).trees)) c.in-Some.is c.requires.there in
     counted-already c.args.cores.now c.in-Some.lane lane c.args.anew (laned c.args.self.now) c.in-Some.is
     (c.requires.counted by.0 c.in-Some.lane by.1 there by.2)
-
-pub returns-in_default-clause-kept : goal.returns-in_default-clause-kept
-returns-in_default-clause-kept g c = grind (arith, common_steps)
 
 pub returns-in_default-clause-counts : goal.returns-in_default-clause-counts
 returns-in_default-clause-counts g c = grind (arith, common_steps)
@@ -25,9 +22,6 @@ is_reached-requires-clause-kept g c = grind (arith, common_steps)
 
 pub is_reached-requires-clause-there : goal.is_reached-requires-clause-there
 is_reached-requires-clause-there g c = grind (arith, common_steps)
-
-pub returns-then-is_reached-clause-kept : goal.returns-then-is_reached-clause-kept
-returns-then-is_reached-clause-kept g c = grind (arith, common_steps)
 
 pub returns-then-is_reached-clause-counts : goal.returns-then-is_reached-clause-counts
 returns-then-is_reached-clause-counts g c = grind (arith, common_steps)
@@ -43,6 +37,3 @@ returns-clause-counts g c = grind (arith, common_steps)
 
 pub returns-clause-each : goal.returns-clause-each
 returns-clause-each g c = grind (arith, common_steps)
-
-pub returns-clause-kept : goal.returns-clause-kept
-returns-clause-kept g c = kept-counts (laned c.args.self.now) (laned c.count_lane.new.self) (returns-clause-counts g c) c.requires.kept

@@ -1,7 +1,5 @@
 use Rattle.std.proofs.Common.{arith}
 use Rattle.std.proofs.lemmas.Grind.{common_steps}
-use Rattle.lanes.specs.Lanes.{laned}
-use Rattle.lanes.proofs.Counting.{kept-counts}
 use Rattle.lanes.proofs.lanes.Lanes.count_at.Goals as goal
 
 pub returns-in-Some-clause-counts : goal.returns-in-Some-clause-counts
@@ -9,9 +7,6 @@ returns-in-Some-clause-counts g c = grind (arith, common_steps)
 
 pub returns-in-Some-clause-each : goal.returns-in-Some-clause-each
 returns-in-Some-clause-each g c = grind (arith, common_steps)
-
-pub returns-in_default-clause-kept : goal.returns-in_default-clause-kept
-returns-in_default-clause-kept g c = grind (arith, common_steps)
 
 pub returns-in_default-clause-counts : goal.returns-in_default-clause-counts
 returns-in_default-clause-counts g c = grind (arith, common_steps)
@@ -24,6 +19,3 @@ cache_of-requires g c = grind (arith, common_steps)
 
 pub count_core-requires : goal.count_core-requires
 count_core-requires g c = grind (arith, common_steps)
-
-pub returns-in-Some-clause-kept : goal.returns-in-Some-clause-kept
-returns-in-Some-clause-kept g c = kept-counts (laned c.args.self.now) (laned c.count_core.new.self) c.count_core.ensures.counts c.requires

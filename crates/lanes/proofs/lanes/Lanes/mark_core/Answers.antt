@@ -4,7 +4,7 @@ use Rattle.lanes.specs.Lanes.{laned, lanes_of, listed_at}
 use Rattle.lanes.specs.declared.lanes.Lanes.{Lanes}
 use Rattle.lanes.specs.declared.lanes.Lane.{Lane}
 use Rattle.lanes.specs.inner.Changes.{IsMarkedIn, ChangesMarks}
-use Rattle.lanes.proofs.Counting.{kept-marks, marks-only}
+use Rattle.lanes.proofs.Counting.{marks-only}
 use Rattle.lanes.proofs.Listing.{lane-low}
 use Rattle.lanes.proofs.Reached.{row-items, rows_in}
 use Rattle.lanes.proofs.lanes.Lanes.mark_core.Given as given
@@ -42,9 +42,6 @@ marks g c =
     marks-only c.args.held c.args.core c.args.block (lanes_of (rows_in c.args.self.now.reached.items) c.args.core.0) c.args.done
     (laned c.args.self.now) (laned (made g c)) c.mark_each.ensures.trees c.mark_each.ensures.stocks refl refl refl
     (omega (arith, count, new, old)) c.requires.level.listed (each g c)
-
-pub returns-clause-kept : goal.returns-clause-kept
-returns-clause-kept g c = kept-marks (laned c.args.self.now) (laned (made g c)) (marks g c) c.requires
 
 pub returns-clause-same : goal.returns-clause-same
 returns-clause-same g c = marks g c

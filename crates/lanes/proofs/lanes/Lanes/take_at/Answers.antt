@@ -71,7 +71,7 @@ returns-then-repeats-clause-takes g c =
     takes-again lane (sum (take lane c.args.self.now.lengths) + c.args.place) c.args.place (remaining c.pass_on.new.self) (laned c.args.self.now)
     (laned (again g c)) c.requires.kept (finds g (goal.at.returns-then-repeats-clause-takes g c).Start)
     (subst (λ t. Alike (remaining c.pass_on.new.self) (left t c.args.place))
-    (lane-tree c.args.self.now.lanes.items lane c.index_mut.result.now there c.index_mut.ensures.value) c.in_ok-repeats.ensures.ok)
+    (lane-tree c.args.self.now.lanes.items lane c.index_mut.result.now there c.index_mut.ensures.value) c.in_ok-repeats.ensures.passes.ok)
     (subst Repeats (lane-tree c.args.self.now.lanes.items lane c.index_mut.result.now there c.index_mut.ensures.value)
     (c.in_ok-repeats.ensures.repeats c.if-repeats.true))
     (again-steps g c)
@@ -86,7 +86,7 @@ returns-clause-takes g c =
     (laned (mid g c)) (laned c.list.new.self) c.requires.kept (finds g (goal.at.returns-clause-takes g c).Start)
     (subst (λ t. Alike (remaining c.pass_on.new.self) (left t c.args.place))
     (lane-tree c.args.self.now.lanes.items lane c.index_mut.result.now (lane-low c.args.self.now lane c.requires.there) c.index_mut.ensures.value)
-    c.in_ok-repeats.ensures.ok)
+    c.in_ok-repeats.ensures.passes.ok)
     (steps g c) c.in_ok-anew.ensures.trees c.in_ok-anew.ensures.level c.in_ok-anew.ensures.listed c.in_ok-anew.ensures.others
 
 pub returns-clause-marks : goal.returns-clause-marks
@@ -97,24 +97,24 @@ returns-clause-marks g c =
 pub returns-in_err-repeats-clause-fits : goal.returns-in_err-repeats-clause-fits
 returns-in_err-repeats-clause-fits g c tree h =
     fits-set c.args.self.now.lanes.items (lane_trees tree) c.args.lane c.index_mut.result.now
-    (record { rest = c.pass_on.new.self; asks = c.index_mut.result.now.asks }) c.index_mut.ensures.value c.pass_on.ensures.fits h
+    (record { rest = c.pass_on.new.self; asks = c.index_mut.result.now.asks }) c.index_mut.ensures.value c.pass_on.ensures.passes.small.fits h
 
 pub returns-then-repeats-clause-fits : goal.returns-then-repeats-clause-fits
 returns-then-repeats-clause-fits g c tree h =
     fits-set c.args.self.now.lanes.items (lane_trees tree) c.args.lane c.index_mut.result.now
-    (record { rest = c.pass_on.new.self; asks = c.index_mut.result.now.asks }) c.index_mut.ensures.value c.pass_on.ensures.fits h
+    (record { rest = c.pass_on.new.self; asks = c.index_mut.result.now.asks }) c.index_mut.ensures.value c.pass_on.ensures.passes.small.fits h
 
 pub returns-in_err-anew-clause-fits : goal.returns-in_err-anew-clause-fits
 returns-in_err-anew-clause-fits g c tree h =
     let passed : Lane g.row.A.Denot g.row.B.Denot = record { rest = c.pass_on.new.self; asks = c.index_mut.result.now.asks } in
     fits-same (set c.args.self.now.lanes.items c.args.lane passed) c.list.new.self.lanes.items (lane_trees tree) c.list.ensures.stocks
-    (fits-set c.args.self.now.lanes.items (lane_trees tree) c.args.lane c.index_mut.result.now passed c.index_mut.ensures.value c.pass_on.ensures.fits h)
+    (fits-set c.args.self.now.lanes.items (lane_trees tree) c.args.lane c.index_mut.result.now passed c.index_mut.ensures.value c.pass_on.ensures.passes.small.fits h)
 
 pub returns-clause-fits : goal.returns-clause-fits
 returns-clause-fits g c tree h =
     let passed : Lane g.row.A.Denot g.row.B.Denot = record { rest = c.pass_on.new.self; asks = c.index_mut.result.now.asks } in
     fits-same (set c.args.self.now.lanes.items c.args.lane passed) c.list.new.self.lanes.items (lane_trees tree) c.list.ensures.stocks
-    (fits-set c.args.self.now.lanes.items (lane_trees tree) c.args.lane c.index_mut.result.now passed c.index_mut.ensures.value c.pass_on.ensures.fits h)
+    (fits-set c.args.self.now.lanes.items (lane_trees tree) c.args.lane c.index_mut.result.now passed c.index_mut.ensures.value c.pass_on.ensures.passes.small.fits h)
 
 pub index_mut-requires : goal.index_mut-requires
 index_mut-requires g c = grind (arith, common_steps)

@@ -10,6 +10,20 @@ use Rattle.moment.proofs.Holding.{usable-told}
 use Rattle.moment.proofs.Making.{can-be-noted, now-made, stays-tracked}
 use Rattle.moment.proofs.moments.Moment.make.Goals as goal
 
+pub pick-requires : goal.pick-requires
+pick-requires g c =
+    let w = c.self.inside.world in
+    let usable : c.self.inside.usable ≡ true =
+    usable-told c.self.inside.usable w.tables _ c.args.k (subst (λ (s : Seen). c.args.k < length (choices_in s)) (sym c.self.view_is) c.requires) in
+    record { kept = (c.self.invariant usable).kept; ready = (c.self.invariant usable).ready }
+
+pub follow-requires : goal.follow-requires
+follow-requires g c =
+    let w = c.self.inside.world in
+    let usable : c.self.inside.usable ≡ true =
+    usable-told c.self.inside.usable w.tables _ c.args.k (subst (λ (s : Seen). c.args.k < length (choices_in s)) (sym c.self.view_is) c.requires) in
+    record { kept = (c.self.invariant usable).kept; picked = c.in-Some.ensures.there }
+
 pub note-turned-requires : goal.note-turned-requires
 note-turned-requires g c =
     let w = c.self.inside.world in
@@ -34,9 +48,9 @@ invariant_of-self-in-Ok-follow g c usable =
     let steps = c.in-Ok.ensures.ok in
     let holds = c.self.invariant usable in
     record {
-      kept = c.in-Ok-follow.ensures.left.kept;
+      kept = c.in-Ok-follow.ensures.ok.left.kept;
       ready =
-          c.in-Ok-follow.ensures.ready w.state cores (subst (λ (t : Tables). AreReady t w.state cores lanes) (sym steps.tables) holds.ready)
+          c.in-Ok-follow.ensures.ok.ready w.state cores (subst (λ (t : Tables). AreReady t w.state cores lanes) (sym steps.tables) holds.ready)
           (subst (λ (s : Step). FollowsStep new.tables s c.in-Ok.made w.state new.state cores c.note-turned.new.cores) (c.step-step.ensures lanes)
           (subst (λ (t : Tables). FollowsStep t c.step-step.result c.in-Ok.made w.state new.state cores c.note-turned.new.cores) (sym steps.tables)
           (follows-noted w.tables c.step-step.result c.in-Ok.made w.state new.state cores c.note-turned.new.cores steps.told c.note-turned.ensures.noted)))
@@ -46,8 +60,8 @@ invariant_of-self-in-Ok-follow g c usable =
           holds.tracked (sym c.in-Some.ensures.choice) (c.step-step.ensures lanes) steps.told c.note-turned.new.cores c.note-turned.ensures.noted;
     }
 
-pub returns-clause-ok : goal.returns-clause-ok
-returns-clause-ok g c =
+pub returns-clause-made : goal.returns-clause-made
+returns-clause-made g c =
     let w = c.self.inside.world in
     let cores = c.self.inside.cores in
     let lanes = laned c.self.inside.lanes in
@@ -68,6 +82,6 @@ returns-clause-ok g c =
         now = now-made w.tables w.state cores (whole lanes) c.args.k choice c.step-step.result c.in-Ok.made c.make.new.self.state
             (c.self.invariant usable).tracked (sym c.in-Some.ensures.choice) (c.step-step.ensures lanes) steps.told c.note-turned.new.cores
             (whole (laned c.follow.new.self)) c.self.inside.usable c.note-turned.ensures.noted usable;
-        alike = c.in-Ok-follow.ensures.left.alike;
+        alike = c.in-Ok-follow.ensures.ok.left.alike;
       };
     })

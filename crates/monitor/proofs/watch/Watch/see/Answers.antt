@@ -4,10 +4,13 @@ use Rattle.machine.specs.Completions.{noted}
 use Rattle.monitor.proofs.Histories.{seen-more}
 use Rattle.monitor.proofs.watch.Watch.see.Goals as goal
 
-pub returns-clause-seen : goal.returns-clause-seen
-returns-clause-seen c opening before seen leads =
-    seen-more c.args.world.now opening c.args.self.now c.note.new.self before c.args.step c.args.outcome
-    (c.note.ensures ∙ ap (λ b. noted c.args.self.now b c.args.outcome) c.block-block.ensures) seen leads
-
-pub returns-clause-noted : goal.returns-clause-noted
-returns-clause-noted c = grind (arith, common_steps)
+pub returns : goal.returns
+returns c =
+    let same = c.note.ensures ∙ ap (λ b. noted c.args.self.now b c.args.outcome) c.block-block.ensures in
+    record {
+      noted = same;
+      violation = grind (arith, common_steps);
+      history = grind (arith, common_steps);
+      seen = λ opening before seen leads.
+          seen-more c.args.world.now opening c.args.self.now c.note.new.self before c.args.step c.args.outcome same seen leads;
+    }

@@ -19,13 +19,13 @@ pub invariant_of-self-then-not-contains : goal.invariant_of-self-then-not-contai
 invariant_of-self-then-not-contains c =
     let there : c.args.cache.0 < length (map on_link c.self.inside.links.items) = rw (sym c.self.view_is) at c.requires in
     rw (c.set.ensures, c.set-then-not-contains.ensures)
-    (linked-same _ _ _ _ _ c.in_ok-send_on.ensures.ok
+    (linked-same _ _ _ _ _ c.in_ok-send_on.ensures.sent.ok
     (linked-first (map on_link c.self.inside.links.items) c.args.cache.0 c.args.forward c.self.inside.waiting c.self.inside.free c.self.inside.count there
     c.self.invariant (sym c.contains.ensures ∙ c.if-not-contains.true)))
 
 pub invariant_of-self-else-not-contains : goal.invariant_of-self-else-not-contains
 invariant_of-self-else-not-contains c =
     let there : c.args.cache.0 < length (map on_link c.self.inside.links.items) = rw (sym c.self.view_is) at c.requires in
-    linked-same _ _ _ _ _ c.in_ok-send_on.ensures.ok
+    linked-same _ _ _ _ _ c.in_ok-send_on.ensures.sent.ok
     (linked-behind (map on_link c.self.inside.links.items) c.args.cache.0 c.args.forward c.self.inside.waiting c.self.inside.free c.self.inside.count there
-    c.self.invariant (rw c.in_ok-send_on.ensures.ok at c.in_ok-send_on.ensures.short) (sym c.contains.ensures ∙ c.if-not-contains.false))
+    c.self.invariant (rw c.in_ok-send_on.ensures.sent.ok at c.in_ok-send_on.ensures.short) (sym c.contains.ensures ∙ c.if-not-contains.false))

@@ -13,7 +13,7 @@ pub returns-in_err-opening_of-clause-err : goal.returns-in_err-opening_of-clause
 returns-in_err-opening_of-clause-err c =
     handed-on c.from_residual.result _ _ _ c.from_residual.ensures.1
     (opening-fault c.args.form c.args.shape (words c.args.line.now) _
-    (subst (λ n. IsBadOpening n (words c.args.line.now) c.in_err-opening_of.field-0.0) c.blocks-2.ensures.value c.in_err-opening_of.ensures.err))
+    (subst (λ n. IsBadOpening n (words c.args.line.now) c.in_err-opening_of.field-0.0) c.blocks-2.ensures.value c.in_err-opening_of.ensures.read))
 
 pub returns-in_err-opening_of-clause-room : goal.returns-in_err-opening_of-clause-room
 returns-in_err-opening_of-clause-room c = grind (arith, common_steps)

@@ -1,4 +1,6 @@
-use Rattle.std.proofs.Common.{◌≡◌, ◌<◌, ◌-◌, ap, arith, refl, subst, sym, ◌∙◌}
+use Rattle.std.proofs.Common.{◌≡◌, ◌<◌, ◌-◌, ◌∷◌, ap, arith, length, length-append, refl, subst, sym, ◌∙◌}
+use Rattle.base.specs.Words.{joined}
+use Rattle.record_lines.specs.Text.{entry_words}
 use Rattle.record_lines.specs.declared.due.Due.{Due}
 use Rattle.record.specs.declared.reader.Reader.{Reader}
 use Rattle.record.specs.inner.Drafts.{lines_left, recorded}
@@ -30,6 +32,12 @@ add-requires-clause-few g c =
     (still-due c.in-EntryLine.form c.loop-left.left c.loop-left-test.true) reading.read in
     (recorded reading.recording, one.1, one.2)
 
+pub add-requires-clause-room : goal.add-requires-clause-room
+add-requires-clause-room g c =
+    let behind = c.take_entry.new.self.ahead in
+    c.loop-left.invariant.ready.space 1
+    (omega (arith, ap length c.in-Some.ensures.ahead, length-append (joined (entry_words c.in-Some.entry)) (10 ∷ behind)))
+
 pub loop-left-preserved : goal.loop-left-preserved
 loop-left-preserved g c =
     let form = c.in-EntryLine.form in
@@ -47,12 +55,12 @@ loop-left-preserved g c =
     let none : form.seats ≡ 0 = omega (arith, c.if-form-gt0.false) in
     let taken = c.in-Some.ensures in
     let less : lines_left new.due < lines_left old.due = fewer-behind form left old.due new.due entry at none taken.fits refl in
-    let more = one-more g.N.Entries.tells form left old new entry at none taken.fits taken.some refl refl (λ v t. c.add.ensures.told v t) in
+    let more = one-more g.N.Entries.tells form left old new entry at none taken.fits taken refl refl (λ v t. c.add.ensures.told v t) in
     let read = c.loop-left.invariant.read in
     record {
       read = (read.0, read.1, more read.0 read.1 read.2);
       reads = λ before last h. more before last (c.loop-left.invariant.reads before last h);
-      ready = still-ready g.N.Entries.has_room old new entry c.loop-left.invariant.ready taken.some less refl c.add.ensures.room;
+      ready = still-ready g.N.Entries.has_room old new entry c.loop-left.invariant.ready taken less refl c.add.ensures.room;
       fewer = omega (arith, less, c.loop-left.invariant.fewer);
     }
 
@@ -66,7 +74,7 @@ returns-clause-reads g c = λ before last h.
             due = c.loop-left.self.due;
             draft = c.loop-left.self.draft;
             entries = c.loop-left.self.entries;
-          }) (sym w.in_default-take_entry.ensures.none) ∙ sym w.self-is
+          }) (sym w.in_default-take_entry.ensures) ∙ sym w.self-is
     ] in
     subst
     (λ (d : Due). IsReading g.N.Entries.tells before last (record {

@@ -11,76 +11,84 @@ use Rattle.record.proofs.reader.Reader.gather.Goals as goal
 
 pub returns-in_err-reserve-clause-err : goal.returns-in_err-reserve-clause-err
 returns-in_err-reserve-clause-err g c =
-    let none = not-whole c.in_ok-gather.field-0 _ (search rules) c.in_ok-gather.ensures.ok in
+    let short = c.gather.ensures.gathers.short (omega (arith, c.loop-self.invariant.ready.short, c.limit.ensures.limit)) in
+    let none = not-whole c.in_ok-gather.field-0 _ (search rules) c.in_ok-gather.ensures.whole in
     let most = c.limit.ensures.limit ∙ ap limit c.loop-self.invariant.pulled.due in
-    let line = unfinished _ c.gather.new.self _ none refl c.gather.ensures.open c.gather.ensures.short in
+    let line = unfinished _ c.gather.new.self _ none refl c.gather.ensures.gathers.no_end short in
     handed-on c.from_residual-in_err-reserve.result NoMemory _ _ c.from_residual-in_err-reserve.ensures.1
     (c.requires.more, subst (λ n. IsUnfinished n (pending c.gather.new.self)) most line)
 
 pub returns-in_err-pull-clause-err : goal.returns-in_err-pull-clause-err
 returns-in_err-pull-clause-err g c =
-    let line = unfinished _ c.pull.new.self _ c.in_err-pull.ensures.err c.pull.ensures.line c.gather.ensures.open c.gather.ensures.short in
+    let short = c.gather.ensures.gathers.short (omega (arith, c.loop-self.invariant.ready.short, c.limit.ensures.limit)) in
+    let line = unfinished _ c.pull.new.self _ c.in_err-pull.ensures.pull.ahead c.in_err-pull.ensures.pull.line c.gather.ensures.gathers.no_end short in
     let most = c.limit.ensures.limit ∙ ap limit c.loop-self.invariant.pulled.due in
     handed-on c.from_residual-in_err-pull.result Device _ _ c.from_residual-in_err-pull.ensures.1
     (subst (λ n. IsUnfinished n (pending c.pull.new.self)) most line, λ done. absurd (c.requires.more done))
 
 pub returns-in_err-pull-clause-pulled : goal.returns-in_err-pull-clause-pulled
 returns-in_err-pull-clause-pulled g c =
-    let none = not-whole c.in_ok-gather.field-0 _ (search rules) c.in_ok-gather.ensures.ok in
+    let none = not-whole c.in_ok-gather.field-0 _ (search rules) c.in_ok-gather.ensures.whole in
     pulled-more g.N.Entries.tells _ (g.S.Source.left c.loop-self.source) _ c.args.self.now c.loop-self.self _ c.gather.new.self c.loop-self.invariant.pulled
-    c.gather.ensures.kept none c.pull.ensures.line c.pull.ensures.bytes (c.pull.ensures.number ∙ c.gather.ensures.number) refl refl
+    c.gather.ensures.gathers.kept none c.in_err-pull.ensures.pull.line c.in_err-pull.ensures.pull.bytes
+    (c.in_err-pull.ensures.pull.number ∙ c.gather.ensures.gathers.number) refl refl
     c.reserve.ensures.told
 
 pub returns-in_err-gather-clause-pulled : goal.returns-in_err-gather-clause-pulled
 returns-in_err-gather-clause-pulled g c =
-    pulled-gathered g.N.Entries.tells _ _ c.args.self.now c.loop-self.self _ c.loop-self.invariant.pulled c.gather.ensures.kept
-    c.gather.ensures.number refl refl (λ r t. t)
+    pulled-gathered g.N.Entries.tells _ _ c.args.self.now c.loop-self.self _ c.loop-self.invariant.pulled c.gather.ensures.gathers.kept
+    c.gather.ensures.gathers.number refl refl (λ r t. t)
 
 pub returns-in_err-reserve-clause-pulled : goal.returns-in_err-reserve-clause-pulled
 returns-in_err-reserve-clause-pulled g c =
-    pulled-gathered g.N.Entries.tells _ _ c.args.self.now c.loop-self.self _ c.loop-self.invariant.pulled c.gather.ensures.kept
-    c.gather.ensures.number refl refl c.reserve.ensures.told
+    pulled-gathered g.N.Entries.tells _ _ c.args.self.now c.loop-self.self _ c.loop-self.invariant.pulled c.gather.ensures.gathers.kept
+    c.gather.ensures.gathers.number refl refl c.reserve.ensures.told
 
 pub returns-clause-pulled : goal.returns-clause-pulled
 returns-clause-pulled g c =
-    pulled-gathered g.N.Entries.tells _ _ c.args.self.now c.loop-self.self _ c.loop-self.invariant.pulled c.gather.ensures.kept
-    c.gather.ensures.number refl refl (λ r t. t)
+    pulled-gathered g.N.Entries.tells _ _ c.args.self.now c.loop-self.self _ c.loop-self.invariant.pulled c.gather.ensures.gathers.kept
+    c.gather.ensures.gathers.number refl refl (λ r t. t)
 
 pub returns-then-not-branch-2-clause-err : goal.returns-then-not-branch-2-clause-err
 returns-then-not-branch-2-clause-err g c =
-    let none = none-if c.in_ok-pull.field-0 _ (search rules) c.in_ok-pull.ensures.some in
-    let line = unfinished _ c.pull.new.self _ none c.pull.ensures.line c.gather.ensures.open c.gather.ensures.short in
+    let short = c.gather.ensures.gathers.short (omega (arith, c.loop-self.invariant.ready.short, c.limit.ensures.limit)) in
+    let none = none-if c.in_ok-pull.field-0 _ (search rules) c.in_ok-pull.ensures.pull.some_if in
+    let line = unfinished _ c.pull.new.self _ none c.in_ok-pull.ensures.pull.line c.gather.ensures.gathers.no_end short in
     let most = c.limit.ensures.limit ∙ ap limit c.loop-self.invariant.pulled.due in
-    (c.requires.more, subst (λ n. IsUnfinished n (pending c.pull.new.self)) most line, c.in_ok-pull.ensures.end none)
+    (c.requires.more, subst (λ n. IsUnfinished n (pending c.pull.new.self)) most line, c.in_ok-pull.ensures.pull.at_end none)
 
 pub returns-then-not-branch-2-clause-pulled : goal.returns-then-not-branch-2-clause-pulled
 returns-then-not-branch-2-clause-pulled g c =
-    let none = not-whole c.in_ok-gather.field-0 _ (search rules) c.in_ok-gather.ensures.ok in
+    let none = not-whole c.in_ok-gather.field-0 _ (search rules) c.in_ok-gather.ensures.whole in
     pulled-more g.N.Entries.tells _ (g.S.Source.left c.loop-self.source) _ c.args.self.now c.loop-self.self _ c.gather.new.self c.loop-self.invariant.pulled
-    c.gather.ensures.kept none c.pull.ensures.line c.pull.ensures.bytes (c.pull.ensures.number ∙ c.gather.ensures.number) refl refl
+    c.gather.ensures.gathers.kept none c.in_ok-pull.ensures.pull.line c.in_ok-pull.ensures.pull.bytes
+    (c.in_ok-pull.ensures.pull.number ∙ c.gather.ensures.gathers.number) refl refl
     c.reserve.ensures.told
 
 pub loop-self-smaller : goal.loop-self-smaller
 loop-self-smaller g c =
-    let none = not-whole c.in_ok-gather.field-0 _ (search rules) c.in_ok-gather.ensures.ok in
-    let some = some-if c.in_ok-pull.field-0 _ (search rules) c.in_ok-pull.ensures.some in
+    let short = c.gather.ensures.gathers.short (omega (arith, c.loop-self.invariant.ready.short, c.limit.ensures.limit)) in
+    let none = not-whole c.in_ok-gather.field-0 _ (search rules) c.in_ok-gather.ensures.whole in
+    let some = some-if c.in_ok-pull.field-0 _ (search rules) c.in_ok-pull.ensures.pull.some_if in
     subst (λ n. (n + 1) - length (pending c.pull.new.self) < (n + 1) - length (pending c.loop-self.self.lines)) c.limit.ensures.limit
-    (then-longer _ c.loop-self.self.lines c.gather.new.self c.pull.new.self c.gather.ensures.kept none c.pull.ensures.line c.gather.ensures.short some)
+    (then-longer _ c.loop-self.self.lines c.gather.new.self c.pull.new.self c.gather.ensures.gathers.kept none c.in_ok-pull.ensures.pull.line short some)
 
 pub loop-self-preserved : goal.loop-self-preserved
 loop-self-preserved g c =
-    let none = not-whole c.in_ok-gather.field-0 _ (search rules) c.in_ok-gather.ensures.ok in
+    let short = c.gather.ensures.gathers.short (omega (arith, c.loop-self.invariant.ready.short, c.limit.ensures.limit)) in
+    let none = not-whole c.in_ok-gather.field-0 _ (search rules) c.in_ok-gather.ensures.whole in
     let space = c.in_ok-reserve.ensures.ok (c.loop-self.invariant.ready.space 0 (omega arith)) in
-    let number = c.pull.ensures.number ∙ c.gather.ensures.number in
+    let number = c.in_ok-pull.ensures.pull.number ∙ c.gather.ensures.gathers.number in
     let more : c.loop-self.self.due ≢ Nothing = λ done. c.requires.more (sym c.loop-self.invariant.pulled.due ∙ done) in
     record {
       ready =
           ready-gathered g.N.Entries.has_room c.loop-self.self _ c.loop-self.invariant.ready more refl refl number
-          (λ n low. space n (omega (arith, low, c.pull.ensures.few)))
-          (omega (arith, ap length c.pull.ensures.line, c.gather.ensures.short, c.limit.ensures.limit));
+          (λ n low. space n (omega (arith, low, c.in_ok-pull.ensures.pull.few)))
+          (omega (arith, ap length c.in_ok-pull.ensures.pull.line, short, c.limit.ensures.limit));
       pulled =
           pulled-more g.N.Entries.tells _ (g.S.Source.left c.loop-self.source) _ c.args.self.now c.loop-self.self _ c.gather.new.self
-          c.loop-self.invariant.pulled c.gather.ensures.kept none c.pull.ensures.line c.pull.ensures.bytes number refl refl c.reserve.ensures.told;
+          c.loop-self.invariant.pulled c.gather.ensures.gathers.kept none c.in_ok-pull.ensures.pull.line c.in_ok-pull.ensures.pull.bytes number refl
+          refl c.reserve.ensures.told;
     }
 
 pub loop-self-init : goal.loop-self-init

@@ -11,53 +11,77 @@ use Rattle.record.proofs.recording.Recording.piece.Goals as goal
 pub returns-then-number-cells-clause-piece : goal.returns-then-number-cells-clause-piece
 returns-then-number-cells-clause-piece c =
     let values = ap length c.opening-opening.ensures.value in
-    c.value.ensures.piece
-    ∙ ap (λ (l : List ℕ). value_piece (get_or l (c.args.number - 1) 0)) c.opening-opening.ensures.value
-    ∙ sym
-    (value-at c.args.self.now c.args.number (c.args.number - 1) 0 (omega (arith, c.if-number-eq0.false))
-    (omega (arith, values, c.if-number-eq0.false, c.if-number-cells.true)))
+    record {
+      is =
+          c.value.ensures.piece.is
+          ∙ ap (λ (l : List ℕ). value_piece (get_or l (c.args.number - 1) 0)) c.opening-opening.ensures.value
+          ∙ sym
+          (value-at c.args.self.now c.args.number (c.args.number - 1) 0 (omega (arith, c.if-number-eq0.false))
+          (omega (arith, values, c.if-number-eq0.false, c.if-number-cells.true)));
+      short = grind (arith, common_steps);
+    }
 
 pub returns-then-number-cells-2-clause-piece : goal.returns-then-number-cells-2-clause-piece
 returns-then-number-cells-2-clause-piece c =
     let values = ap length c.opening-opening.ensures.value in
-    c.cells_head.ensures.piece ∙ ap cells_piece c.requires.changed
-    ∙ sym (cells-at c.args.self.now c.args.number (omega (arith, values, c.if-number-cells-2.true)))
+    record {
+      is =
+          c.cells_head.ensures.is ∙ ap cells_piece c.requires.changed
+          ∙ sym (cells-at c.args.self.now c.args.number (omega (arith, values, c.if-number-cells-2.true)));
+      short = grind (arith, common_steps);
+    }
 
 pub returns-then-number-count-clause-piece : goal.returns-then-number-count-clause-piece
 returns-then-number-count-clause-piece c =
     let values = ap length c.opening-opening.ensures.value in
     let i = c.args.number - (length c.opening-opening.result.now + 1) - 1 in
-    c.cell_if_changed.ensures.piece
-    ∙ ap (λ (t : Tables). cell_piece t c.with_number.result) c.tables.ensures
-    ∙ ap (cell_piece c.args.self.now.tables)
-    (sym (get_or_from_slice_get all_places i c.with_number.result c.with_number.result c.with_number.ensures))
-    ∙ sym (cell-at c.args.self.now c.args.number i c.with_number.result
-    (omega (arith, values, c.if-number-eq0.false, c.if-number-cells.false, c.if-number-cells-2.false))
-    (omega (arith, c.if-number-cells.false, c.if-number-cells-2.false, c.if-number-count.true)))
+    record {
+      is =
+          c.cell_if_changed.ensures.is
+          ∙ ap (λ (t : Tables). cell_piece t c.with_number.result) c.tables.ensures
+          ∙ ap (cell_piece c.args.self.now.tables)
+          (sym (get_or_from_slice_get all_places i c.with_number.result c.with_number.result c.with_number.ensures))
+          ∙ sym (cell-at c.args.self.now c.args.number i c.with_number.result
+          (omega (arith, values, c.if-number-eq0.false, c.if-number-cells.false, c.if-number-cells-2.false))
+          (omega (arith, c.if-number-cells.false, c.if-number-cells-2.false, c.if-number-count.true)));
+      short = grind (arith, common_steps);
+    }
 
 pub returns-then-number-count-2-clause-piece : goal.returns-then-number-count-2-clause-piece
 returns-then-number-count-2-clause-piece c =
     let values = ap length c.opening-opening.ensures.value in
-    c.entries_head.ensures.piece ∙ ap entries_piece (ap length c.entries-entries.ensures.value)
-    ∙ sym (entries-at c.args.self.now c.args.number (omega (arith, values, c.if-number-count-2.true)))
+    record {
+      is =
+          c.entries_head.ensures.is ∙ ap entries_piece (ap length c.entries-entries.ensures.value)
+          ∙ sym (entries-at c.args.self.now c.args.number (omega (arith, values, c.if-number-count-2.true)));
+      short = grind (arith, common_steps);
+    }
 
 pub returns-then-number-count-3-clause-piece : goal.returns-then-number-count-3-clause-piece
 returns-then-number-count-3-clause-piece c =
     let values = ap length c.opening-opening.ensures.value in
     let i = c.args.number - (length c.opening-opening.result.now + 1 + 184 + 1) - 1 in
-    c.told_line.ensures.text
-    ∙ sym (entry-at c.args.self.now c.args.number i c.told.result
-    (omega (arith, values, c.if-number-count.false, c.if-number-count-2.false))
-    (omega (arith, c.if-number-count.false, c.if-number-count-2.false, c.if-number-count-3.true, ap length c.entries-entries.ensures.value))
-    c.told.ensures.owner c.told.ensures.entry)
+    record {
+      is =
+          c.told_line.ensures.text
+          ∙ sym (entry-at c.args.self.now c.args.number i c.told.result
+          (omega (arith, values, c.if-number-count.false, c.if-number-count-2.false))
+          (omega (arith, c.if-number-count.false, c.if-number-count-2.false, c.if-number-count-3.true, ap length c.entries-entries.ensures.value))
+          c.told.ensures.owner c.told.ensures.entry);
+      short = grind (arith, common_steps);
+    }
 
 pub returns-else-number-count-3-clause-piece : goal.returns-else-number-count-3-clause-piece
 returns-else-number-count-3-clause-piece c =
     let values = ap length c.opening-opening.ensures.value in
     let entries = ap length c.entries-entries.ensures.value in
-    c.end.ensures.piece
-    ∙ sym (end-at c.args.self.now c.args.number
-    (omega (arith, values, entries, c.if-number-count-3.false, c.requires.within, pieces-count c.args.self.now)))
+    record {
+      is =
+          c.end.ensures.is
+          ∙ sym (end-at c.args.self.now c.args.number
+          (omega (arith, values, entries, c.if-number-count-3.false, c.requires.within, pieces-count c.args.self.now)));
+      short = grind (arith, common_steps);
+    }
 
 pub returns-then-number-count-3-clause-fits : goal.returns-then-number-count-3-clause-fits
 returns-then-number-count-3-clause-fits c =
@@ -103,35 +127,14 @@ overflow_sub-number-then-number-count-3-2 c = grind (arith, common_steps)
 pub returns-then-number-eq0-clause-piece : goal.returns-then-number-eq0-clause-piece
 returns-then-number-eq0-clause-piece c = grind (arith, common_steps)
 
-pub returns-then-number-eq0-clause-short : goal.returns-then-number-eq0-clause-short
-returns-then-number-eq0-clause-short c = grind (arith, common_steps)
-
 pub returns-then-number-eq0-clause-fits : goal.returns-then-number-eq0-clause-fits
 returns-then-number-eq0-clause-fits c = grind (arith, common_steps)
-
-pub returns-then-number-cells-clause-short : goal.returns-then-number-cells-clause-short
-returns-then-number-cells-clause-short c = grind (arith, common_steps)
-
-pub returns-then-number-cells-2-clause-short : goal.returns-then-number-cells-2-clause-short
-returns-then-number-cells-2-clause-short c = grind (arith, common_steps)
 
 pub returns-then-number-cells-2-clause-fits : goal.returns-then-number-cells-2-clause-fits
 returns-then-number-cells-2-clause-fits c = grind (arith, common_steps)
 
-pub returns-then-number-count-clause-short : goal.returns-then-number-count-clause-short
-returns-then-number-count-clause-short c = grind (arith, common_steps)
-
-pub returns-then-number-count-2-clause-short : goal.returns-then-number-count-2-clause-short
-returns-then-number-count-2-clause-short c = grind (arith, common_steps)
-
 pub returns-then-number-count-2-clause-fits : goal.returns-then-number-count-2-clause-fits
 returns-then-number-count-2-clause-fits c = grind (arith, common_steps)
-
-pub returns-then-number-count-3-clause-short : goal.returns-then-number-count-3-clause-short
-returns-then-number-count-3-clause-short c = grind (arith, common_steps)
-
-pub returns-else-number-count-3-clause-short : goal.returns-else-number-count-3-clause-short
-returns-else-number-count-3-clause-short c = grind (arith, common_steps)
 
 pub returns-else-number-count-3-clause-fits : goal.returns-else-number-count-3-clause-fits
 returns-else-number-count-3-clause-fits c = grind (arith, common_steps)

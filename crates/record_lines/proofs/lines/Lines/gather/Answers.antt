@@ -30,8 +30,8 @@ grown-by buffer kept at end held count fits behind none stands =
     let is = grown kept buffer at end held count behind few in
     record { few = few; is = is; none = still-open _ _ _ is none stands.lasting }
 
-pub returns-then-count-most-clause-err : goal.returns-then-count-most-clause-err
-returns-then-count-most-clause-err c =
+pub returns-then-count-most-clause-whole : goal.returns-then-count-most-clause-whole
+returns-then-count-most-clause-whole c =
     let inside = c.self.inside in
     let count = c.bytes_of_line-count.result in
     let found = c.bytes_of_line-count.ensures in

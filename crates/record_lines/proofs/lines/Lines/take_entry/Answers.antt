@@ -5,8 +5,8 @@ use Rattle.record_lines.specs.Reading.{Gathered}
 use Rattle.record_lines.proofs.Streams.{left-behind, no-line}
 use Rattle.record_lines.proofs.lines.Lines.take_entry.Goals as goal
 
-pub returns-clause-some : goal.returns-clause-some
-returns-clause-some c =
+pub returns : goal.returns
+returns c =
     let inside = c.self.inside in
     let entry = joined (entry_words c.in_ok-entry.entry) in
     let rest = c.in_ok-entry.rest.now in
@@ -16,6 +16,7 @@ returns-clause-some c =
     left-behind inside.buffer (entry ++ 10 ∷ []) rest inside.at inside.end (search rules) c.self.invariant.in_order
     (text ∙ sym (append_assoc entry (10 ∷ []) rest)) in
     record {
+      fits = c.in_ok-entry.ensures.fits;
       none = sym (ap (λ (g : Gathered). g.line) c.self.view_is) ∙ none;
       ahead = sym (ap (λ (g : Gathered). g.ahead) c.self.view_is) ∙ text ∙ ap (λ l. entry ++ 10 ∷ l) (sym behind);
       line = no-line inside.line.items inside.buffer (inside.end - length rest) inside.held (search rules) c.if-self-gt0.false;

@@ -5,8 +5,8 @@ use Rattle.record_lines.specs.Reading.{Gathered, next_number}
 use Rattle.record_lines.proofs.Streams.{left-behind, no-line}
 use Rattle.record_lines.proofs.lines.Lines.take_step.Goals as goal
 
-pub returns-clause-some : goal.returns-clause-some
-returns-clause-some c =
+pub returns : goal.returns
+returns c =
     let inside = c.self.inside in
     let step = joined (step_words c.in_ok-step.step) in
     let rest = c.in_ok-step.rest.now in

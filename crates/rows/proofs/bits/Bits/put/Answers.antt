@@ -1,4 +1,5 @@
 use Rattle.std.proofs.Common.{◌≡◌, ◌<◌, ◌≤◌, ◌^◌, ◌∙◌, ℕ, List, [], ◌∷◌, Bool, Some, length, slice_get, slice_index, ap, sym, arith, bit_and}
+use Rattle.std.proofs.lemmas.Grind.{common_steps}
 use Rattle.std.specs.Int.{bit_at, bit_not, w64}
 use Rattle.std.specs.Option.{option_copied}
 use Rattle.std.proofs.lemmas.Nat.{and_le_l, and_le_r, or_lt}
@@ -36,10 +37,13 @@ invariant_of-self c =
     (ap (λ ws. slice_get ws 0) (sym c.deref.ensures.value) ∙ sym c.first.ensures.value ∙ ap option_copied c.in-Some.is)
     c.ranges.told.fits c.ranges.places.fits c.requires.inside).whole
 
-pub returns-clause-each : goal.returns-clause-each
-returns-clause-each c =
-    rw (← c.self.view_is)
-    (made c.self.inside.words.items c.args.self.now c.self.inside.places c.self.inside.ones c.args.places c.args.told c.in-Some.first.now
-    c.self.view_is c.self.invariant c.requires.few
-    (ap (λ ws. slice_get ws 0) (sym c.deref.ensures.value) ∙ sym c.first.ensures.value ∙ ap option_copied c.in-Some.is)
-    c.ranges.told.fits c.ranges.places.fits c.requires.inside).each
+pub returns : goal.returns
+returns c = record {
+  long = grind (arith, common_steps);
+  each =
+      rw (← c.self.view_is)
+      (made c.self.inside.words.items c.args.self.now c.self.inside.places c.self.inside.ones c.args.places c.args.told c.in-Some.first.now
+      c.self.view_is c.self.invariant c.requires.few
+      (ap (λ ws. slice_get ws 0) (sym c.deref.ensures.value) ∙ sym c.first.ensures.value ∙ ap option_copied c.in-Some.is)
+      c.ranges.told.fits c.ranges.places.fits c.requires.inside).each;
+}

@@ -9,7 +9,7 @@ returns-clause-makes g c r told = (
   record {
     step = c.in_ok-step.step;
     made = c.in_ok-step.made;
-    makes = c.in_ok-step.ensures.ok;
+    makes = c.in_ok-step.ensures.made;
     like = c.make.ensures.like;
     dice = refl;
     recorded = refl;

@@ -5,13 +5,13 @@ use Rattle.trials.proofs.series.Series.result.Goals as goal
 pub returns-in-Some-clause-sound : goal.returns-in-Some-clause-sound
 returns-in-Some-clause-sound g c never =
     IfOk-weaker c.finish.result _ _ (λ made is.
-    c.trials_under_tables_that_keep_going.ensures.sound c.args.self.now.setup.now (plain c.args.self.now.scenario.now) c.args.number is.recording made.verdict
-    never c.limit-limit.ensures.lawful is.trial)
+    (c.trials_under_tables_that_keep_going.ensures c.args.self.now.setup.now never c.setups_are_lawful.ensures).sound
+    (plain c.args.self.now.scenario.now) c.args.number is.recording made.verdict is.trial)
     c.finish.ensures.result
 
 pub returns-clause-sound : goal.returns-clause-sound
 returns-clause-sound g c never =
     IfOk-weaker c.first.result _ _ (λ made is.
-    c.trials_under_tables_that_keep_going.ensures.sound c.args.self.now.setup.now (plain c.args.self.now.scenario.now) c.args.number is.recording made.verdict
-    never c.limit-limit.ensures.lawful is.trial)
+    (c.trials_under_tables_that_keep_going.ensures c.args.self.now.setup.now never c.setups_are_lawful.ensures).sound
+    (plain c.args.self.now.scenario.now) c.args.number is.recording made.verdict is.trial)
     c.first.ensures.result

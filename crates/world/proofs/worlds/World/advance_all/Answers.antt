@@ -34,10 +34,7 @@ pub returns-in-Err-clause-ok : goal.returns-in-Err-clause-ok
 returns-in-Err-clause-ok c = grind (arith, common_steps)
 
 pub returns-in-Err-clause-err : goal.returns-in-Err-clause-err
-returns-in-Err-clause-err c = grind (arith, common_steps)
-
-pub returns-in-Err-clause-done : goal.returns-in-Err-clause-done
-returns-in-Err-clause-done c = grind (arith, common_steps)
+returns-in-Err-clause-err c = (grind (arith, common_steps), grind (arith, common_steps))
 
 pub returns-in-Err-clause-shape : goal.returns-in-Err-clause-shape
 returns-in-Err-clause-shape c = grind (arith, common_steps)
@@ -46,10 +43,7 @@ pub returns-in_default-make-clause-ok : goal.returns-in_default-make-clause-ok
 returns-in_default-make-clause-ok c = grind (arith, common_steps)
 
 pub returns-in_default-make-clause-err : goal.returns-in_default-make-clause-err
-returns-in_default-make-clause-err c = grind (arith, common_steps)
-
-pub returns-in_default-make-clause-done : goal.returns-in_default-make-clause-done
-returns-in_default-make-clause-done c = grind (arith, common_steps)
+returns-in_default-make-clause-err c = (grind (arith, common_steps), grind (arith, common_steps))
 
 pub returns-in_default-make-clause-shape : goal.returns-in_default-make-clause-shape
 returns-in_default-make-clause-shape c = grind (arith, common_steps)
@@ -62,9 +56,6 @@ returns-clause-ok c = grind (arith, common_steps)
 
 pub returns-clause-err : goal.returns-clause-err
 returns-clause-err c = grind (arith, common_steps)
-
-pub returns-clause-done : goal.returns-clause-done
-returns-clause-done c = grind (arith, common_steps)
 
 pub returns-clause-shape : goal.returns-clause-shape
 returns-clause-shape c = grind (arith, common_steps)

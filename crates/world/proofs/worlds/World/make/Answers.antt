@@ -1,4 +1,4 @@
-use Rattle.std.proofs.Common.{◌∙◌, ◌<◌, ◌≤◌, ◌+◌, ◌-◌, ◌^◌, List, None, length, subst, ◌≡◌, Some, ap, inl, inr, refl, sym, slice_get, false, true≢false, arith}
+use Rattle.std.proofs.Common.{◌∙◌, ◌<◌, ◌≤◌, ◌+◌, ◌-◌, ◌^◌, List, None, length, subst, ◌≡◌, Some, ap, refl, sym, slice_get, false, true≢false, arith}
 use Rattle.std.proofs.lemmas.Grind.{common_steps}
 use Rattle.base.specs.Steps.{block_of}
 use Rattle.blocks.specs.View.{moved_to}
@@ -13,7 +13,7 @@ use Rattle.world.specs.View.{state_or}
 use Rattle.world.specs.inner.Holding.{kept_at}
 use Rattle.world.proofs.Keeping.{found-none, states-stay}
 use Rattle.world.proofs.Spaces.{kept-as-is}
-use Rattle.world.proofs.Stepping.{below-places, came-to, light-in, made-is, next-is, room-at, state_of, tests-block, tests-sent, world-stays, world-stepped}
+use Rattle.world.proofs.Stepping.{below-places, came-to, made-is, needs-in, next-is, state_of, tests-block, tests-sent, world-stays, world-stepped}
 use Rattle.world.proofs.worlds.World.make.Goals as goal
 use Rattle.world.proofs.worlds.World.make.Goals.{After-result-1}
 
@@ -65,18 +65,11 @@ returns-in_err-visit-clause-err c = on_err c.from_residual.result (record {
 })
 
 pub returns-in_err-visit-clause-succeeds : goal.returns-in_err-visit-clause-succeeds
-returns-in_err-visit-clause-succeeds c needs = elim needs [
-  | inl room ↦
-      absurd (true≢false (sym ((rw (c.block-number.ensures, c.caches.ensures.value) at c.in_err-visit.ensures.succeeds)
-      (inl (room-at c.self.inside.shape c.self.inside.controllers c.self.inside.opening.items c.self.inside.blocks.items c.self.inside.tested
-      c.args.step c.in-Some.value (at c)
-      (rw (← c.self.view_is, c.if-self.false) at room))))))
-  | inr light ↦
-      absurd (true≢false (sym ((rw (c.block-number.ensures, c.caches.ensures.value) at c.in_err-visit.ensures.succeeds)
-      (inr (light-in c.self.inside.shape c.self.inside.controllers c.self.inside.opening.items c.self.inside.blocks.items c.self.inside.tested
-      c.args.step c.in-Some.value (at c)
-      (rw (← c.self.view_is, c.if-self.false) at light.0) (rw (← c.self.view_is) at light.1))))))
-]
+returns-in_err-visit-clause-succeeds c needs =
+    absurd (true≢false (sym ((rw (c.block-number.ensures, c.caches.ensures.value) at c.in_err-visit.ensures.succeeds)
+    (needs-in c.self.inside.shape c.self.inside.controllers c.self.inside.opening.items c.self.inside.blocks.items c.self.inside.tested
+    c.args.step c.in-Some.value (at c)
+    (rw (← c.self.view_is, c.if-self.false) at needs)))))
 
 moved : (c : After-result-1) →
     transition c.self.inside.controllers c.args.step (state_or c.self.inside.shape.caches c.in-Some.value

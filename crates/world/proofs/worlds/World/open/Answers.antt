@@ -21,21 +21,17 @@ pub invariant_of-result : goal.invariant_of-result
 invariant_of-result c =
     rw c.new.ensures (world-opened c.args.shape c.args.tables c.args.opening.items c.open-2.result.items c.in-Ok.counts c.blocks-2.ensures.within (one_each c)
     (c.open-2.ensures.items ∙ ap (λ n. replicate n None) c.blocks-4.ensures.value)
-    (rw c.blocks-3.ensures.value at c.in-Ok.ensures.requests) (rw c.blocks-3.ensures.value at c.in-Ok.ensures.heads)
-    (rw c.blocks-3.ensures.value at c.in-Ok.ensures.responses))
+    (rw c.blocks-3.ensures.value at c.in-Ok.ensures))
 
-pub returns-clause-state : goal.returns-clause-state
-returns-clause-state c = opened-state c
-
-pub returns-clause-history : goal.returns-clause-history
-returns-clause-history c = rw (opened-state c) (record { opens = one_each c; leads = refl })
-
-pub returns-clause-safe : goal.returns-clause-safe
-returns-clause-safe c = been-safe _ _ _ c.blocks-2.ensures.within
-
-pub returns-clause-unstuck : goal.returns-clause-unstuck
-returns-clause-unstuck c = not-stuck _ _ _ c.blocks-2.ensures.within
-
-pub returns-clause-none_kept : goal.returns-clause-none_kept
-returns-clause-none_kept c =
-    none-kept c.open-2.result.items c.args.shape.blocks (c.open-2.ensures.items ∙ ap (λ n. replicate n None) c.blocks-4.ensures.value)
+pub returns-clause-opened : goal.returns-clause-opened
+returns-clause-opened c = record {
+  shape = refl;
+  tables = c.new.ensures;
+  opening = refl;
+  state = opened-state c;
+  history = rw (opened-state c) (record { opens = one_each c; leads = refl });
+  safe = been-safe _ _ _ c.blocks-2.ensures.within;
+  unstuck = not-stuck _ _ _ c.blocks-2.ensures.within;
+  tested = refl;
+  none_kept = none-kept c.open-2.result.items c.args.shape.blocks (c.open-2.ensures.items ∙ ap (λ n. replicate n None) c.blocks-4.ensures.value);
+}

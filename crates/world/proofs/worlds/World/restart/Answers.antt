@@ -1,4 +1,4 @@
-use Rattle.std.proofs.Common.{◌≡◌, ◌∙◌, ℕ, List, Some, ap, false, length, refl, replicate, slice_get, sym}
+use Rattle.std.proofs.Common.{◌≡◌, ◌∙◌, ℕ, List, Some, ap, false, length, refl, slice_get, sym}
 use Rattle.std.proofs.lemmas.List.{length-map}
 use Rattle.machine.specs.Block.{BlockState}
 use Rattle.machine.specs.Machine.{State, opened}
@@ -7,6 +7,7 @@ use Rattle.world.specs.inner.Holding.{AreLined, IsOpened, kept_at}
 use Rattle.world.proofs.Coherence.{been-safe, not-stuck}
 use Rattle.world.specs.Keeping.{has_line}
 use Rattle.world.proofs.Keeping.{space-at}
+use Rattle.world.specs.inner.Counts.{none_counted}
 use Rattle.world.proofs.Openings.{lined, lines-reset, states-reset, world-reset}
 use Rattle.world.proofs.Spaces.{keeps-no-other}
 use Rattle.world.proofs.worlds.World.restart.Goals as goal
@@ -36,8 +37,7 @@ pub invariant_of-self : goal.invariant_of-self
 invariant_of-self c =
     world-reset c.self.inside.shape c.self.inside.controllers c.self.inside.opening.items c.reset_all.new.blocks.items c.clear.new.self
     c.self.invariant.shaped.within c.self.invariant.opening (c.reset_all.ensures.count ∙ c.self.invariant.places) (again c)
-    (c.clear.ensures.requests ∙ ap (λ n. replicate n 0) (counted c)) (c.clear.ensures.heads ∙ ap (λ n. replicate n 0) (counted c))
-    (c.clear.ensures.responses ∙ ap (λ n. replicate n 0) (counted c))
+    (c.clear.ensures ∙ ap none_counted (counted c))
 
 pub returns : goal.returns
 returns c =

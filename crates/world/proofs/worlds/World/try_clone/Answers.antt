@@ -32,73 +32,18 @@ invariant_of-result c =
       counted = c.self.invariant.counted;
     })
 
-pub returns-clause-kept : goal.returns-clause-kept
-returns-clause-kept c = λ block before.
-    keeps-no-other c.self.inside.blocks.items c.in_ok-blocks.blocks.items block
-    (none-copied c.in_ok-blocks.blocks.items c.self.inside.blocks.items (items c))
-    (ap (λ (w : View). get_or w.spaces block None) c.self.view_is ∙ before)
-
-pub returns-clause-lines : goal.returns-clause-lines
-returns-clause-lines c = λ block cache.
-    lines-copied c.in_ok-blocks.blocks.items c.self.inside.blocks.items (items c) block cache
-    ∙ ap (λ (w : View). has_line (get_or w.spaces block None) cache) c.self.view_is
-
-pub returns-clause-state : goal.returns-clause-state
-returns-clause-state c = rw (← c.self.view_is, blocks c) refl
-
-pub returns-in_err-opening-clause-shape : goal.returns-in_err-opening-clause-shape
-returns-in_err-opening-clause-shape c = grind (arith, common_steps)
-
-pub returns-in_err-opening-clause-tables : goal.returns-in_err-opening-clause-tables
-returns-in_err-opening-clause-tables c = grind (arith, common_steps)
-
-pub returns-in_err-opening-clause-opening : goal.returns-in_err-opening-clause-opening
-returns-in_err-opening-clause-opening c = grind (arith, common_steps)
-
-pub returns-in_err-opening-clause-state : goal.returns-in_err-opening-clause-state
-returns-in_err-opening-clause-state c = grind (arith, common_steps)
-
-pub returns-in_err-opening-clause-tested : goal.returns-in_err-opening-clause-tested
-returns-in_err-opening-clause-tested c = grind (arith, common_steps)
-
-pub returns-in_err-blocks-clause-shape : goal.returns-in_err-blocks-clause-shape
-returns-in_err-blocks-clause-shape c = grind (arith, common_steps)
-
-pub returns-in_err-blocks-clause-tables : goal.returns-in_err-blocks-clause-tables
-returns-in_err-blocks-clause-tables c = grind (arith, common_steps)
-
-pub returns-in_err-blocks-clause-opening : goal.returns-in_err-blocks-clause-opening
-returns-in_err-blocks-clause-opening c = grind (arith, common_steps)
-
-pub returns-in_err-blocks-clause-state : goal.returns-in_err-blocks-clause-state
-returns-in_err-blocks-clause-state c = grind (arith, common_steps)
-
-pub returns-in_err-blocks-clause-tested : goal.returns-in_err-blocks-clause-tested
-returns-in_err-blocks-clause-tested c = grind (arith, common_steps)
-
-pub returns-in_err-counts-clause-shape : goal.returns-in_err-counts-clause-shape
-returns-in_err-counts-clause-shape c = grind (arith, common_steps)
-
-pub returns-in_err-counts-clause-tables : goal.returns-in_err-counts-clause-tables
-returns-in_err-counts-clause-tables c = grind (arith, common_steps)
-
-pub returns-in_err-counts-clause-opening : goal.returns-in_err-counts-clause-opening
-returns-in_err-counts-clause-opening c = grind (arith, common_steps)
-
-pub returns-in_err-counts-clause-state : goal.returns-in_err-counts-clause-state
-returns-in_err-counts-clause-state c = grind (arith, common_steps)
-
-pub returns-in_err-counts-clause-tested : goal.returns-in_err-counts-clause-tested
-returns-in_err-counts-clause-tested c = grind (arith, common_steps)
-
-pub returns-clause-shape : goal.returns-clause-shape
-returns-clause-shape c = grind (arith, common_steps)
-
-pub returns-clause-tables : goal.returns-clause-tables
-returns-clause-tables c = grind (arith, common_steps)
-
-pub returns-clause-opening : goal.returns-clause-opening
-returns-clause-opening c = opening c ∙ ap (λ (w : View). w.opening) c.self.view_is
-
-pub returns-clause-tested : goal.returns-clause-tested
-returns-clause-tested c = grind (arith, common_steps)
+pub returns : goal.returns
+returns c = record {
+  shape = grind (arith, common_steps);
+  tables = grind (arith, common_steps);
+  opening = opening c ∙ ap (λ (w : View). w.opening) c.self.view_is;
+  state = rw (← c.self.view_is, blocks c) refl;
+  tested = grind (arith, common_steps);
+  kept = λ block before.
+      keeps-no-other c.self.inside.blocks.items c.in_ok-blocks.blocks.items block
+      (none-copied c.in_ok-blocks.blocks.items c.self.inside.blocks.items (items c))
+      (ap (λ (w : View). get_or w.spaces block None) c.self.view_is ∙ before);
+  lines = λ block cache.
+      lines-copied c.in_ok-blocks.blocks.items c.self.inside.blocks.items (items c) block cache
+      ∙ ap (λ (w : View). has_line (get_or w.spaces block None) cache) c.self.view_is;
+}
