@@ -117,13 +117,18 @@ def outline(text):
         at, head = head_of(lines, place)
         is_public = head[2] == "pub " or is_of_trait(block_around(lines, at))
         dropped.update(range(opening_of(lines, at, head[1]) + 1 if is_public else at, place.last))
+    return without_imports(line for number, line in enumerate(lines) if number not in dropped)
+
+
+def without_imports(lines):
+    """Those of some lines of code that say something, imports apart."""
     kept, is_in_use = [], False
-    for number, line in enumerate(lines):
+    for line in lines:
         is_in_use = is_in_use or USES.match(line) is not None
-        if number not in dropped and not is_in_use and not UNREAD.match(line) and line.strip():
-            kept.append(line.strip())
+        if not is_in_use and not UNREAD.match(line) and line.strip():
+            kept.append(line.rstrip())
         is_in_use = is_in_use and not line.rstrip().endswith(";")
-    return "\n".join(kept)
+    return kept
 
 
 @cache

@@ -5,25 +5,22 @@ import subprocess
 from pathlib import Path
 
 from bodies.edits import TIERS
-from bodies.sources import TOP, below, crates, outline
+from bodies.items import reached
+from bodies.sources import TOP, below, crates
 
 SOURCES = ("src", "specs", "proofs")
 
 
 def sum_of(name):
-    """The sum of a crate's own sources, of its edits whatever their tier, and of what it sees of the crates below it."""
-    parts = {}
+    """The sum of a crate's own sources, of its edits whatever their tier, and of what these reach of the crates below it."""
     folder = TOP / "crates" / name
-    for it in (it for part in SOURCES for it in (folder / part).rglob("*") if it.suffix in (".rt", ".antt")):
-        parts[str(it.relative_to(TOP))] = it.read_bytes()
-    for it in (it for tier in TIERS for it in (folder / tier).glob("*.edit")):
-        parts[it.name] = it.read_bytes()
-    for lower in (TOP / "crates" / it for it in below(name, crates())):
-        parts |= {str(it.relative_to(TOP)): it.read_bytes() for it in (lower / "specs").rglob("*.antt")}
-        parts |= {str(it.relative_to(TOP)): outline(it.read_text(encoding="utf-8")).encode() for it in (lower / "src").rglob("*.rt")}
+    files = [it for part in SOURCES for it in (folder / part).rglob("*") if it.suffix in (".rt", ".antt")]
+    own = {str(it.relative_to(folder)): it.read_text(encoding="utf-8") for it in files}
+    own |= {it.name: it.read_text(encoding="utf-8") for tier in TIERS for it in (folder / tier).glob("*.edit")}
+    lower = reached("\n".join(own.values()), below(name, crates()))
     made = hashlib.sha256()
-    for key, content in sorted(parts.items()):
-        made.update(f"{key}\0{hashlib.sha256(content).hexdigest()}\n".encode())
+    for content in (*(f"{key}\0{text}" for key, text in sorted(own.items())), *sorted(it.text for it in lower)):
+        made.update(f"{hashlib.sha256(content.encode()).hexdigest()}\n".encode())
     return made.hexdigest()
 
 

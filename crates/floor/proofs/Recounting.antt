@@ -22,10 +22,11 @@ use Rattle.world.specs.Enabled.{enabled_at_block, heads_from, kind_enabled, kind
 use Rattle.world.specs.View.{View}
 use Rattle.world.specs.inner.Counts.{Rows, row_of_kind, none_counted}
 use Rattle.floor.specs.Belonging.{belongs}
-use Rattle.floor.specs.inner.Keeping.{Advances, IsStart}
+use Rattle.floor.specs.inner.Keeping.{Advances}
 use Rattle.floor.specs.inner.Sharing.{AreCountedFor, AreRecounted, AreShared, belongs_in, lengths_from, ready_at, recounted, share}
 use Rattle.machine.specs.declared.made.Made.{Made}
 use Rattle.record.specs.View.{RecordingView}
+use Rattle.trials.specs.Making.{StartsUnder}
 use Rattle.trials.specs.Terms.{Terms}
 use Rattle.floor.proofs.Sharing.{lengths-length, lengths-set, ready-there}
 
@@ -212,7 +213,7 @@ lengths-opened seats caches tables seat k i (v ∷ values) =
     ap (λ xs. length (filter (belongs_in seats caches seat (opened_block caches v)) xs) ∷ rest) (sym (none-opened tables k (record { 0 = i }) caches v)))
 
 -- before the first step nothing is ready for anybody
-pub shared_first : (seats : ℕ) (setup : Terms) (world : View) (shares : List Rows) → IsStart setup world →
+pub shared_first : (seats : ℕ) (setup : Terms) (world : View) (shares : List Rows) → StartsUnder setup world →
     length shares ≡ seats → All (λ rows. rows ≡ none_counted (length setup.opening)) shares → AreShared seats world shares
 shared_first seats setup world shares starts count none = record {
   count = count;

@@ -49,7 +49,7 @@ pub struct Hall<F: Naming> {
 
 impl<F: Naming> Drop for Hall<F> {
     fn drop(self) {
-        // All its parts go in one call.
+        // One call drops all its parts.
         let Hall {
             world: _,
             watch: _,

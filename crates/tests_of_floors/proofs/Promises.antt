@@ -13,41 +13,41 @@ use Rattle.floor.specs.HallCalling.{Refuses, RefusesDraw, Turns, TurnsAny}
 use Rattle.floor.specs.SeatCalling.{HadNone, IsMoment, ReceivesAny, WasDrawn, WasDrawRefused, WasRefused}
 
 -- a floor is refused for having no seats exactly where it has none
-pub open-no_seats : {T : Type 0} (seats capacity : ℕ) (r : Result T FloorFault) →
+pub open-no-seats : {T : Type 0} (seats capacity : ℕ) (r : Result T FloorFault) →
     MatchResult r (λ _. IsFloorSize seats capacity) (IsUnopened seats capacity) → IsErrOf r unopened.NoSeats ↔ (seats ≡ 0)
-open-no_seats seats capacity (Ok opened) told = ((λ e. absurd (cc e)), λ e. absurd (omega (arith, e, told.0.0)))
-open-no_seats seats capacity (Err unopened.NoSeats) told = ((λ e. told), λ e. refl)
-open-no_seats seats capacity (Err unopened.TooManySeats) told = ((λ e. absurd (cc e)), λ e. absurd (omega (arith, e, told)))
-open-no_seats seats capacity (Err unopened.OverLimit) told = ((λ e. absurd (cc e)), λ e. absurd (omega (arith, e, told.0.0)))
-open-no_seats seats capacity (Err unopened.NoMemory) told = ((λ e. absurd (cc e)), λ e. absurd (omega (arith, e, told.0.0)))
+open-no-seats seats capacity (Ok opened) told = ((λ e. absurd (cc e)), λ e. absurd (omega (arith, e, told.0.0)))
+open-no-seats seats capacity (Err unopened.NoSeats) told = ((λ e. told), λ e. refl)
+open-no-seats seats capacity (Err unopened.TooManySeats) told = ((λ e. absurd (cc e)), λ e. absurd (omega (arith, e, told)))
+open-no-seats seats capacity (Err unopened.OverLimit) told = ((λ e. absurd (cc e)), λ e. absurd (omega (arith, e, told.0.0)))
+open-no-seats seats capacity (Err unopened.NoMemory) told = ((λ e. absurd (cc e)), λ e. absurd (omega (arith, e, told.0.0)))
 
 -- for having too many exactly where it has more than 64
-pub open-too_many_seats : {T : Type 0} (seats capacity : ℕ) (r : Result T FloorFault) →
+pub open-too-many-seats : {T : Type 0} (seats capacity : ℕ) (r : Result T FloorFault) →
     MatchResult r (λ _. IsFloorSize seats capacity) (IsUnopened seats capacity) → IsErrOf r unopened.TooManySeats ↔ (64 < seats)
-open-too_many_seats seats capacity (Ok opened) told = ((λ e. absurd (cc e)), λ e. absurd (omega (arith, e, told.0.1)))
-open-too_many_seats seats capacity (Err unopened.NoSeats) told = ((λ e. absurd (cc e)), λ e. absurd (omega (arith, e, told)))
-open-too_many_seats seats capacity (Err unopened.TooManySeats) told = ((λ e. told), λ e. refl)
-open-too_many_seats seats capacity (Err unopened.OverLimit) told = ((λ e. absurd (cc e)), λ e. absurd (omega (arith, e, told.0.1)))
-open-too_many_seats seats capacity (Err unopened.NoMemory) told = ((λ e. absurd (cc e)), λ e. absurd (omega (arith, e, told.0.1)))
+open-too-many-seats seats capacity (Ok opened) told = ((λ e. absurd (cc e)), λ e. absurd (omega (arith, e, told.0.1)))
+open-too-many-seats seats capacity (Err unopened.NoSeats) told = ((λ e. absurd (cc e)), λ e. absurd (omega (arith, e, told)))
+open-too-many-seats seats capacity (Err unopened.TooManySeats) told = ((λ e. told), λ e. refl)
+open-too-many-seats seats capacity (Err unopened.OverLimit) told = ((λ e. absurd (cc e)), λ e. absurd (omega (arith, e, told.0.1)))
+open-too-many-seats seats capacity (Err unopened.NoMemory) told = ((λ e. absurd (cc e)), λ e. absurd (omega (arith, e, told.0.1)))
 
 -- and for its capacity exactly where else that is over 1,000,000
-pub open-over_limit : {T : Type 0} (seats capacity : ℕ) (r : Result T FloorFault) →
+pub open-over-limit : {T : Type 0} (seats capacity : ℕ) (r : Result T FloorFault) →
     MatchResult r (λ _. IsFloorSize seats capacity) (IsUnopened seats capacity) →
     IsErrOf r unopened.OverLimit ↔ ((0 < seats) × (seats ≤ 64) × (1000000 < capacity))
-open-over_limit seats capacity (Ok opened) told = ((λ e. absurd (cc e)), λ e. absurd (omega (arith, e.2, told.1)))
-open-over_limit seats capacity (Err unopened.NoSeats) told = ((λ e. absurd (cc e)), λ e. absurd (omega (arith, e.0, told)))
-open-over_limit seats capacity (Err unopened.TooManySeats) told = ((λ e. absurd (cc e)), λ e. absurd (omega (arith, e.1, told)))
-open-over_limit seats capacity (Err unopened.OverLimit) told = ((λ e. (told.0.0, told.0.1, told.1)), λ e. refl)
-open-over_limit seats capacity (Err unopened.NoMemory) told = ((λ e. absurd (cc e)), λ e. absurd (omega (arith, e.2, told.1)))
+open-over-limit seats capacity (Ok opened) told = ((λ e. absurd (cc e)), λ e. absurd (omega (arith, e.2, told.1)))
+open-over-limit seats capacity (Err unopened.NoSeats) told = ((λ e. absurd (cc e)), λ e. absurd (omega (arith, e.0, told)))
+open-over-limit seats capacity (Err unopened.TooManySeats) told = ((λ e. absurd (cc e)), λ e. absurd (omega (arith, e.1, told)))
+open-over-limit seats capacity (Err unopened.OverLimit) told = ((λ e. (told.0.0, told.0.1, told.1)), λ e. refl)
+open-over-limit seats capacity (Err unopened.NoMemory) told = ((λ e. absurd (cc e)), λ e. absurd (omega (arith, e.2, told.1)))
 
 -- a turn by a step that isn't the seat's is refused as such
-pub turn-not_yours : (f : FloorId) (old new : HallView) (seat left : SeatView) (step : Step) (r : Result _ TurnFault) →
+pub turn-not-yours : (f : FloorId) (old new : HallView) (seat left : SeatView) (step : Step) (r : Result _ TurnFault) →
     IfOk r (Turns f old new seat left step) → IfErr r (Refuses f old new seat left step) →
     is_its f old.entries seat.number step ≡ false → IsErrOf r NotYours
-turn-not_yours f old new seat left step (Ok receipt) made refused foreign = cc (made.own, foreign)
-turn-not_yours f old new seat left step (Err NotYours) made refused foreign = refl
-turn-not_yours f old new seat left step (Err Full) made refused foreign = cc (refused.reason.0, foreign)
-turn-not_yours f old new seat left step (Err NoMemory) made refused foreign = cc (refused.reason.0, foreign)
+turn-not-yours f old new seat left step (Ok receipt) made refused foreign = cc (made.own, foreign)
+turn-not-yours f old new seat left step (Err NotYours) made refused foreign = refl
+turn-not-yours f old new seat left step (Err Full) made refused foreign = cc (refused.reason.0, foreign)
+turn-not-yours f old new seat left step (Err NoMemory) made refused foreign = cc (refused.reason.0, foreign)
 
 -- else it is refused where there are as many entries as the floor takes
 pub turn-full : (f : FloorId) (old new : HallView) (seat left : SeatView) (step : Step) (r : Result _ TurnFault) →
@@ -59,13 +59,13 @@ turn-full f old new seat left step (Err Full) made refused own full = refl
 turn-full f old new seat left step (Err NoMemory) made refused own full = absurd (omega (arith, refused.reason.1, full))
 
 -- and else only for want of memory
-pub turn-else_memory : (f : FloorId) (old new : HallView) (seat left : SeatView) (step : Step) (r : Result _ TurnFault) →
+pub turn-else-memory : (f : FloorId) (old new : HallView) (seat left : SeatView) (step : Step) (r : Result _ TurnFault) →
     IfOk r (Turns f old new seat left step) → IfErr r (Refuses f old new seat left step) →
     is_its f old.entries seat.number step ≡ true → length old.entries < f.capacity → IsOkUnless r NoMemory
-turn-else_memory f old new seat left step (Ok receipt) made refused own room = tt
-turn-else_memory f old new seat left step (Err NotYours) made refused own room = cc (refused.reason, own)
-turn-else_memory f old new seat left step (Err Full) made refused own room = absurd (omega (arith, refused.reason.1, room))
-turn-else_memory f old new seat left step (Err NoMemory) made refused own room = refl
+turn-else-memory f old new seat left step (Ok receipt) made refused own room = tt
+turn-else-memory f old new seat left step (Err NotYours) made refused own room = cc (refused.reason, own)
+turn-else-memory f old new seat left step (Err Full) made refused own room = absurd (omega (arith, refused.reason.1, room))
+turn-else-memory f old new seat left step (Err NoMemory) made refused own room = refl
 
 -- whatever comes of it, it was made at a moment of the seat's, at which there were no more entries than the floor takes
 pub turn-moment : (f : FloorId) (old new : HallView) (seat left : SeatView) (step : Step) (r : Result _ TurnFault) →
@@ -90,12 +90,12 @@ turn_any-full f old new seat left word (Err Full) made refused full = refl
 turn_any-full f old new seat left word (Err NoMemory) made refused full = absurd (omega (arith, refused.reason.1, full))
 
 -- and else only for want of memory
-pub turn_any-else_memory : (f : FloorId) (old new : HallView) (seat left : SeatView) (word : ℕ) (r : Result (Option _) TurnFault) →
+pub turn_any-else-memory : (f : FloorId) (old new : HallView) (seat left : SeatView) (word : ℕ) (r : Result (Option _) TurnFault) →
     IfOk r (TurnsAny f old new seat left word) → IfErr r (RefusesDraw f old new seat left) → length old.entries < f.capacity → IsOkUnless r NoMemory
-turn_any-else_memory f old new seat left word (Ok made-of) made refused room = tt
-turn_any-else_memory f old new seat left word (Err NotYours) made refused room = cc (refused.reason)
-turn_any-else_memory f old new seat left word (Err Full) made refused room = absurd (omega (arith, refused.reason.1, room))
-turn_any-else_memory f old new seat left word (Err NoMemory) made refused room = refl
+turn_any-else-memory f old new seat left word (Ok made-of) made refused room = tt
+turn_any-else-memory f old new seat left word (Err NotYours) made refused room = cc (refused.reason)
+turn_any-else-memory f old new seat left word (Err Full) made refused room = absurd (omega (arith, refused.reason.1, room))
+turn_any-else-memory f old new seat left word (Err NoMemory) made refused room = refl
 
 -- it is made at a moment
 pub turn_any-moment : (f : FloorId) (old new : HallView) (seat left : SeatView) (word : ℕ) (r : Result (Option _) TurnFault) →

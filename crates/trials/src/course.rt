@@ -22,7 +22,7 @@ pub(crate) struct Course<'s, 'b, A: Allocator, N: Notes> {
 
 impl<'s, 'b, A: Allocator, N: Notes> Drop for Course<'s, 'b, A, N> {
     fn drop(self) {
-        // Whoever drops one has a call to prove, and not the drops of all its parts.
+        // One call drops all its parts.
         let Course {
             moment: _,
             dice: _,

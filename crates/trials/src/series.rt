@@ -31,7 +31,7 @@ pub struct Series<'s, 'b, A: Allocator> {
 
 impl<'s, 'b, A: Allocator> Drop for Series<'s, 'b, A> {
     fn drop(self) {
-        // Whoever drops one has a call to prove, and not the drops of all its parts.
+        // One call drops all its parts.
         let Series {
             alloc: _,
             arena: _,

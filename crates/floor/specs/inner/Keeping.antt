@@ -5,13 +5,13 @@ use Rattle.atomic_table.specs.Seated.{TableId}
 use Rattle.base.specs.declared.step.Step.{Step}
 use Rattle.machine.specs.declared.made.Made.{Made}
 use Rattle.machine.specs.Made.{IsTold}
-use Rattle.machine.specs.Machine.{opened}
 use Rattle.monitor.specs.declared.violation.Violation.{Violation}
 use Rattle.monitor.specs.Watching.{HasSeen}
 use Rattle.record_lines.specs.declared.entry.Entry.{Entry}
 use Rattle.record.specs.View.{RecordingView, IsLegal, opened_of, steps_of, with_owned}
 use Rattle.world.specs.View.{View}
 use Rattle.world.specs.inner.Counts.{Rows}
+use Rattle.trials.specs.Making.{StartsUnder}
 use Rattle.trials.specs.Terms.{Terms}
 use Rattle.floor.specs.declared.tokens.TokenView.{TokenView}
 use Rattle.floor.specs.FloorId.{FloorId}
@@ -52,19 +52,13 @@ pub record IsFloorSeat (floor : FloorId) (number : ℕ) (made : List (ℕ × Ent
   pub token_is : token ≡ floor.ground
   pub sits : me ≡ (sitting number made, [])
 
--- a world under a setup, before its first step
-pub record IsStart (setup : Terms) (world : View) : Type 0 where
-  pub shape : world.shape ≡ setup.shape
-  pub tables : world.tables ≡ setup.tables
-  pub state : world.state ≡ opened setup.shape setup.opening
-
 -- a recording of so many seats under a setup, without entries
 abbrev pub OpensUnder : ℕ → Terms → RecordingView → Type 0
 OpensUnder seats setup recording = recording ≡ opened_of seats setup.shape setup.tables setup.opening
 
 -- what a hall of so many seats begins with: a world before its first step, a watch that has seen none, and a recording without entries
 pub record AreParts (seats : ℕ) (setup : Terms) (world : View) (watch : List ℕ) (recording : RecordingView) : Type 0 where
-  pub starts : IsStart setup world
+  pub starts : StartsUnder setup world
   pub seen : (w : View) → HasSeen w setup.opening [] watch
   pub opens : OpensUnder seats setup recording
 

@@ -7,6 +7,7 @@ returns c = record {
   starts = record {
     shape = grind (arith, common_steps);
     tables = grind (arith, common_steps);
+    opening = grind (arith, common_steps);
     state = grind (arith, common_steps);
   };
   seen = grind (arith, common_steps);

@@ -1,0 +1,97 @@
+"""What crates declare that crates above see, item by item, and which of these items a text reaches by names.
+
+Proofs of a crate hang on its own files, and of the crates below on the contracts, definitions and types that it names, and that these
+name in turn. Names are compared wherever they are from, so rather too much is reached than too little."""
+
+import re
+from dataclasses import dataclass
+from functools import cache
+
+from bodies.sources import BLOCK, FUNCTION, TOP, names_of, outline
+
+WORD = re.compile(r"\w+")
+# Where an item of code begins, and what it declares.
+OPENS_CODE = re.compile(r"\w")
+DECLARES = re.compile(r"\b(?:fn|struct|enum|union|trait|type|const|static) (\w+)")
+# The same of a file of definitions.
+OPENS_SPECS = re.compile(r"(?:abbrev|pub|record|data|mutual)\b")
+DECLARES_SPECS = re.compile(r"^ *(?:abbrev )?(?:pub )?(?:record |data )?([^\s(){}:]+) *[:({]", re.M)
+UNREAD_SPECS = re.compile(r"\s*--|use |pub mod ")
+
+
+@dataclass(frozen=True)
+class Item:
+    """Something that is declared: the words by which it is named, and its text."""
+
+    words: frozenset
+    text: str
+
+
+def item(names, lines):
+    return Item(frozenset(word for name in names for word in WORD.findall(name)), "\n".join(lines))
+
+
+def chunks(lines, opens):
+    """Some lines, in rows that begin with a line that opens something; but for the first row, if there is one before these."""
+    rows = []
+    for line in lines:
+        if opens.match(line) or not rows:
+            rows.append([])
+        rows[-1].append(line)
+    return rows
+
+
+def items_of_block(lines):
+    """The functions of an `impl`, each by itself, and what else stands in it. One of a trait is one item, as a trait is."""
+    opening = next((at for at, line in enumerate(lines) if line.endswith("{")), 0)
+    block = BLOCK.match(" ".join(lines[: opening + 1]))
+    names = names_of(block)
+    if block[1] == "trait" or len(names) > 1:
+        return [item(names[-1:], lines)]
+    head, found = lines[: opening + 1], []
+    for rest in chunks(lines[opening + 1 :], FUNCTION):
+        function = FUNCTION.match(rest[0])
+        found.append(item([function[3]] if function else names, head + rest))
+    return found
+
+
+@cache
+def items_of_code(text):
+    """The items of a file of code. Modules are none, nor is what is handed on under its own name."""
+    found = []
+    for lines in chunks(outline(text), OPENS_CODE):
+        if BLOCK.match(lines[0]):
+            found += items_of_block(lines)
+        elif not re.match(r"(pub(\([^)]*\))? )?mod ", lines[0]):
+            found.append(item(DECLARES.findall(lines[0])[:1] or WORD.findall(lines[0]), lines))
+    return found
+
+
+@cache
+def items_of_specs(text):
+    """The items of a file of definitions. Those that name each other are one."""
+    lines = [it.rstrip() for it in text.split("\n") if it.strip() and not UNREAD_SPECS.match(it)]
+    found = []
+    for rows in chunks(lines, OPENS_SPECS):
+        names = DECLARES_SPECS.findall("\n".join(rows))
+        found.append(item(names if rows[0].endswith("mutual") else names[:1], rows))
+    return found
+
+
+@cache
+def items_above(crate):
+    """What crates above see of a crate."""
+    folder = TOP / "crates" / crate
+    code = (it for file in (folder / "src").rglob("*.rt") for it in items_of_code(file.read_text(encoding="utf-8")))
+    specs = (it for file in (folder / "specs").rglob("*.antt") for it in items_of_specs(file.read_text(encoding="utf-8")))
+    return frozenset((*code, *specs))
+
+
+def reached(text, lower):
+    """Those of the items of some crates that a text names, or that these name in turn. One without a name is always reached."""
+    waiting, found, words = {it for crate in lower for it in items_above(crate)}, set(), {*WORD.findall(text)}
+    while named := {it for it in waiting if not it.words or it.words & words}:
+        found |= named
+        waiting -= named
+        words.update(word for it in named for word in WORD.findall(it.text))
+    return found
