@@ -172,20 +172,16 @@ fn fall(tree: &Vec<u64>, node: usize, rest: u64) -> (usize, u64)
     ensures front { span tree.now.items node (result.0 - node) + result.1 ≡ rest }
     ensures within { result.1 < slice_index tree.now.items result.0 }
 {
-    let mut left = rest;
-    let first = tree[node];
-    if left < first {
-        return (node, left);
-    }
-    left -= first;
-    let second = tree[node + 1];
-    if left < second {
-        return (node + 1, left);
-    }
-    left -= second;
-    let third = tree[node + 2];
-    if left < third {
-        return (node + 2, left);
-    }
-    (node + 3, left - third)
+    // Which one it is can't be foretold, so nothing branches. A difference that wraps is more than what it was taken from.
+    let pair = &tree[node..node + 2];
+    let behind = rest.wrapping_sub(pair[0]);
+    let is_past = (rest >= pair[0]) & (behind >= pair[1]);
+    let (half, left) = if is_past {
+        (node + 2, behind - pair[1])
+    } else {
+        (node, rest)
+    };
+    let next = tree[half];
+    let place = if left < next { half } else { half + 1 };
+    (place, left.min(left.wrapping_sub(next)))
 }
