@@ -23,12 +23,12 @@ use Rattle.schedule.specs.declared.groups.Row.TheVariants.{Empty, One, Mixed}
 use Rattle.schedule.proofs.Marking.{marks-at-length}
 
 -- what stands at a place is what a look finds there
-same-there : (asks : List CoreAsk) (n : ℕ) (ask d : CoreAsk) → slice_get asks n ≡ Some ask → get_or asks n d ≡ ask
+pub same-there : (asks : List CoreAsk) (n : ℕ) (ask d : CoreAsk) → slice_get asks n ≡ Some ask → get_or asks n d ≡ ask
 same-there [] n ask d e = absurd (cc e)
 same-there (a ∷ asks) zero ask d e = cc e
 same-there (a ∷ asks) (suc n) ask d e = same-there asks n ask d e
 
-some-there : (asks : List CoreAsk) (n : ℕ) → n < length asks → (ask : CoreAsk) × (slice_get asks n ≡ Some ask)
+pub some-there : (asks : List CoreAsk) (n : ℕ) → n < length asks → (ask : CoreAsk) × (slice_get asks n ≡ Some ask)
 some-there [] n h = absurd (omega (arith, h))
 some-there (a ∷ asks) zero h = (a, refl)
 some-there (a ∷ asks) (suc n) h = some-there asks n (omega (arith, h))
@@ -213,7 +213,7 @@ module _ (held : HeldAsks) (core : CacheId) (block : BlockId) where
       anew-apart asks start now rest some fits
       (λ ask e. absurd (let low = below-length asks (trailing_zeros w64 rest) ask e in omega (arith, low, past))) before
 
-  marks-get : (asks : List CoreAsk) (marks : List Bool) (k : ℕ) (ask : CoreAsk) → length marks ≡ length asks → slice_get asks k ≡ Some ask →
+  pub marks-get : (asks : List CoreAsk) (marks : List Bool) (k : ℕ) (ask : CoreAsk) → length marks ≡ length asks → slice_get asks k ≡ Some ask →
       get_or (marks_by held core block asks marks) k false ≡ anew ask (get_or marks k false)
   marks-get [] marks k ask long e = absurd (cc e)
   marks-get (a ∷ asks) [] k ask long e = absurd (omega (arith, long))

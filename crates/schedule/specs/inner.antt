@@ -1,1 +1,3 @@
 pub mod Groups
+pub mod Places
+pub mod Search

@@ -13,7 +13,8 @@ ghost use Rattle.schedule.specs.Owned.{AreOf};
 ghost use Rattle.schedule.specs.declared.choosing.Choice.TheVariants.{Offer};
 
 use crate::choosing::step_of;
-use crate::groups::Groups;
+use crate::groups::{Groups, MOST};
+use crate::places::Places;
 use base::{BlockId, CacheId, CoreAsk, NoMemory};
 use blocks::HeldAsks;
 use cores::Cores;
@@ -25,6 +26,17 @@ use std::marker::Model;
 use std::mem::swap;
 use world::World;
 
+/// How the asks about a block are found.
+#[derive(Clone, Copy)]
+pub(crate) enum Search {
+    /// All are looked through.
+    All,
+    /// By the bits of their groups.
+    Groups,
+    /// By their places.
+    Places,
+}
+
 /// What a lane offers: asks, at most 4,294,967,295, and beside each whether it wouldn't be held. Whether its core is free isn't
 /// kept, so that a mark changes only where a step went to the core's cache, about the ask's block.
 #[derive(Drop)]
@@ -34,9 +46,10 @@ pub struct Asks {
     unheld: Bits,
     // Whose all asks are, where there are some and they are one core's.
     core: Option<CacheId>,
-    // Where the asks about a block are, if they are grouped.
-    grouped: bool,
+    // How those about a block are found, and by what.
+    search: Search,
     groups: Groups,
+    places: Places,
     // Where what is offered next is listed.
     next: Vec<CoreAsk>,
 }
@@ -44,14 +57,14 @@ pub struct Asks {
 impl Model for Asks {
     ghost use Rattle.std.specs.Prelude.{◌≡◌, true};
     ghost use Rattle.schedule.specs.Listed.{Listed};
-    ghost use Rattle.schedule.specs.inner.Groups.{Cover};
+    ghost use Rattle.schedule.specs.inner.Search.{AreFound};
     ghost use Rattle.schedule.specs.Owned.{AreKept};
 
     ghost Value = { Listed };
 
     ghost view = { λ a. record { asks = a.asks.items; unheld = a.unheld } };
 
-    ghost invariant = { λ a. AreKept a.asks.items a.unheld a.core × (a.grouped ≡ true → Cover a.groups a.asks.items) };
+    ghost invariant = { λ a. AreKept a.asks.items a.unheld a.core × AreFound a.search a.groups a.places a.asks.items };
 }
 
 impl Asks {
@@ -76,8 +89,9 @@ impl Asks {
             asks: Vec::new(alloc),
             unheld,
             core: None,
-            grouped: false,
+            search: Search::All,
             groups: Groups::none(),
+            places: Places::none(alloc),
             next: Vec::new(alloc),
         })
     }
@@ -116,7 +130,7 @@ impl Asks {
         if are_same(self.next.as_slice(), self.asks.as_slice()) {
             return Ok(false);
         }
-        self.grouped = false;
+        self.search = Search::All;
         take_over(
             self.alloc,
             world,
@@ -125,8 +139,23 @@ impl Asks {
             &mut self.unheld,
         )?;
         self.core = core_of(self.asks.as_slice());
-        self.grouped = self.groups.group(self.asks.as_slice());
+        self.note_places();
         Ok(true)
+    }
+
+    /// Notes where the asks about a block are, but of too few. Where there is no memory for that all are looked through.
+    fn note_places(&mut self)
+        ensures { self.new ≡ self.old }
+    {
+        let asks = self.asks.as_slice();
+        self.search = Search::All;
+        if self.groups.group(asks) {
+            self.search = Search::Groups;
+            return;
+        }
+        if asks.len() > MOST && self.places.place(self.alloc, asks).is_ok() {
+            self.search = Search::Places;
+        }
     }
 
     /// Lists nothing from now on, and answers whether there was anything.
@@ -139,7 +168,7 @@ impl Asks {
             self.unheld.reopen(self.alloc, 0)?;
             self.asks.clear();
             self.core = None;
-            self.grouped = false;
+            self.search = Search::All;
         }
         Ok(were_some)
     }
@@ -157,7 +186,7 @@ impl Asks {
         self.unheld.set(0, unheld);
         let CoreAsk { core, .. } = ask;
         self.core = Some(core);
-        self.grouped = false;
+        self.search = Search::All;
         Ok(true)
     }
 
@@ -170,7 +199,7 @@ impl Asks {
         if self.asks[0] == ask {
             return false;
         }
-        self.grouped = false;
+        self.search = Search::All;
         self.core = Some(ask.core);
         self.asks[0] = ask;
         self.unheld.set(0, is_unheld(world, ask));
@@ -190,11 +219,12 @@ impl Asks {
         ensures { self.new ≡ marked_by held core block self.old }
     {
         let asks = self.asks.as_slice();
-        if self.grouped {
-            self.groups.mark(held, core, block, asks, &mut self.unheld);
-            return;
+        let unheld = &mut self.unheld;
+        match self.search {
+            Search::All => mark_at(held, core, block, asks, unheld),
+            Search::Groups => self.groups.mark(held, core, block, asks, unheld),
+            Search::Places => self.places.mark(held, core, block, asks, unheld),
         }
-        mark_at(held, core, block, asks, &mut self.unheld);
     }
 
     /// How many asks can be put, by their marks.

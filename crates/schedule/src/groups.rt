@@ -16,7 +16,7 @@ use rows::Bits;
 const FEW: usize = 5;
 
 /// The most asks: a bit for each.
-const MOST: usize = 64;
+pub(crate) const MOST: usize = 64;
 
 /// What the asks of a row have in common.
 #[derive(Clone, Copy)]

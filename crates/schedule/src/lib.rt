@@ -7,6 +7,7 @@ mod choosing;
 mod dice;
 mod groups;
 mod laws;
+mod places;
 
 pub use asks::Asks;
 pub use choosing::{Choice, choices, step_of};
