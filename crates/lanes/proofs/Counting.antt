@@ -19,7 +19,8 @@ use Rattle.cores.specs.Cores.{Core, is_free}
 use Rattle.scenario.specs.Tree.{Seq, Nil}
 use Rattle.scenario.specs.Taking as taking
 use Rattle.schedule.specs.Choices.{can_be_put, offers_from}
-use Rattle.lanes.specs.Lanes.{AreAsFree, AreReady, AreLanesKept, IsLevel, IsListed, Laned, lanes_of, listed_at, offers_at, puttable}
+use Rattle.lanes.specs.Lanes.{AreAsFree, AreReady, Laned, listed_at, offers_at, puttable}
+use Rattle.lanes.specs.inner.Kept.{AreListed, IsLevel, IsListed, lanes_of}
 use Rattle.schedule.specs.Listed.{IsMarked, Listed, is_unheld, nothing_listed}
 use Rattle.schedule.specs.Marks.{AreHeldAt, all_marked, is_at, mark_by, marked_by, marks_by, offers_by}
 use Rattle.lanes.specs.inner.Changes.{Agree, AgreeBut, AreCountedAt, AreMarked, ChangesCounts, IsCountedAt, IsCountedIf, IsMarkedIn, KeepsOtherLanes}
@@ -287,48 +288,49 @@ not-among which n lane all each there =
     each there.0 (let h = there.1 in omega (arith, h, all)) (get_or_default which there.0 0 lane there.1 ∙ there.2)
 
 -- nothing but marks has changed
-pub kept-marks : (old new : Laned) → ChangesMarks old new → AreLanesKept old → AreLanesKept new
-kept-marks old new m kept =
-    let level = kept.level in
+pub level-marks : (old new : Laned) → ChangesMarks old new → IsLevel old → IsLevel new
+level-marks old new m level = record {
+  listed = m.long ∙ level.listed ∙ sym (ap length m.trees);
+  lengths = ap length m.lengths ∙ level.lengths ∙ sym (ap length m.trees);
+  ready = ap length m.ready ∙ level.ready ∙ sym (ap length m.trees);
+  few = subst (λ n. n ≤ 2 ^ 31) (sym (ap length m.trees)) level.few;
+  rows = subst (λ n. 1 ≤ n) (sym (ap length m.reached)) level.rows;
+}
+
+pub listed-marks : (old new : Laned) → ChangesMarks old new → AreListed old → AreListed new
+listed-marks old new m listed lane low =
+    let h = listed lane (subst (λ ts. lane < length ts) m.trees low) in
+    let same = m.asks lane in
     record {
-      level = record {
-        listed = m.long ∙ level.listed ∙ sym (ap length m.trees);
-        lengths = ap length m.lengths ∙ level.lengths ∙ sym (ap length m.trees);
-        ready = ap length m.ready ∙ level.ready ∙ sym (ap length m.trees);
-        few = subst (λ n. n ≤ 2 ^ 31) (sym (ap length m.trees)) level.few;
-        rows = subst (λ n. 1 ≤ n) (sym (ap length m.reached)) level.rows;
-      };
-      listed = λ lane low.
-          let h = kept.listed lane (subst (λ ts. lane < length ts) m.trees low) in
-          let same = m.asks lane in
-          record {
-            offered = same ∙ h.offered ∙ ap (λ ts. taking.offers (get_or ts lane (Seq Nil))) (sym m.trees);
-            count = ap (λ ns. get_or ns lane 0) m.lengths ∙ h.count ∙ ap length (sym same);
-            short = subst (λ xs. length xs < 2 ^ 32) (sym same) h.short;
-            reached = λ at ask e. subst (λ rs. Contains (lanes_of rs ask.core.0) lane) (sym m.reached)
-                (h.reached at ask (ap (λ xs. slice_get xs at) (sym same) ∙ e));
-          };
+      offered = same ∙ h.offered ∙ ap (λ ts. taking.offers (get_or ts lane (Seq Nil))) (sym m.trees);
+      count = ap (λ ns. get_or ns lane 0) m.lengths ∙ h.count ∙ ap length (sym same);
+      short = subst (λ xs. length xs < 2 ^ 32) (sym same) h.short;
+      reached = λ at ask e. subst (λ rs. Contains (lanes_of rs ask.core.0) lane) (sym m.reached)
+          (h.reached at ask (ap (λ xs. slice_get xs at) (sym same) ∙ e));
     }
 
 -- nothing but counts has changed
-pub kept-counts : (old new : Laned) → ChangesCounts old new → AreLanesKept old → AreLanesKept new
-kept-counts old new m kept =
-    let level = kept.level in
-    subst AreLanesKept (sym m.same) (record {
-      level = record { listed = level.listed; lengths = level.lengths; ready = m.long ∙ level.ready; few = level.few; rows = level.rows };
-      listed = λ lane low. let h = kept.listed lane low in record { offered = h.offered; count = h.count; short = h.short; reached = h.reached };
-    })
+pub level-counts : (old new : Laned) → ChangesCounts old new → IsLevel old → IsLevel new
+level-counts old new m level =
+    subst IsLevel (sym m.same)
+    (record { listed = level.listed; lengths = level.lengths; ready = m.long ∙ level.ready; few = level.few; rows = level.rows })
+
+pub listed-counts : (old new : Laned) → ChangesCounts old new → AreListed old → AreListed new
+listed-counts old new m listed =
+    subst AreListed (sym m.same)
+    (λ lane low. let h = listed lane low in record { offered = h.offered; count = h.count; short = h.short; reached = h.reached })
 
 pub marks-only : (held : HeldAsks) (core : CacheId) (block : BlockId) (which : List ℕ) (done : Option ℕ) (old new : Laned) → new.trees ≡ old.trees →
-    new.stocks ≡ old.stocks → new.lengths ≡ old.lengths → new.ready ≡ old.ready → new.reached ≡ old.reached → length new.listed ≡ length old.listed →
-    length old.listed ≡ length old.trees →
+    new.stocks ≡ old.stocks → new.lengths ≡ old.lengths → new.ready ≡ old.ready → new.reached ≡ old.reached → new.usable ≡ old.usable →
+    length new.listed ≡ length old.listed → length old.listed ≡ length old.trees →
     ((lane : ℕ) → lane < length old.trees → IsMarkedIn held core block which done (listed_at old lane) (listed_at new lane) lane) → ChangesMarks old new
-marks-only held core block which done old new trees stocks lengths ready reached long many each = record {
+marks-only held core block which done old new trees stocks lengths ready reached usable long many each = record {
   trees = trees;
   stocks = stocks;
   lengths = lengths;
   ready = ready;
   reached = reached;
+  usable = usable;
   long = long;
   asks = λ lane. elim (cases_lt lane (length old.trees)) [
     | inl low ↦ elim (each lane low) [
@@ -342,12 +344,12 @@ marks-only held core block which done old new trees stocks lengths ready reached
 
 -- where the lanes of a core were marked again, all marks are right
 pub all-marked : (tables : Tables) (before now : State) (cb cn : List Core) (but done : Option ℕ) (core : CacheId) (block : BlockId) (held : HeldAsks)
-    (old new : Laned) → AreLanesKept old → ChangesMarks old new → before.broken ≡ false → now.broken ≡ false → AreHeldAt tables now core block held →
+    (old new : Laned) → AreListed old → ChangesMarks old new → before.broken ≡ false → now.broken ≡ false → AreHeldAt tables now core block held →
     IfSome done (λ lane. IsMarked tables now (listed_at old lane)) → WereReady tables before cb now but old →
     AgreeBut (Some (Cache core)) block.0 before now cb cn →
     ((lane : ℕ) → lane < length old.trees → IsMarkedIn held core block (lanes_of old.reached core.0) done (listed_at old lane) (listed_at new lane) lane) →
     AreMarked tables now new
-all-marked tables before now cb cn but done core block held old new kept m sb sn all right were agree each lane low =
+all-marked tables before now cb cn but done core block held old new listed m sb sn all right were agree each lane low =
     let there : lane < length old.trees = subst (λ ts. lane < length ts) m.trees low in
     elim (each lane there) [
       | inl e ↦ subst (IsMarked tables now) (sym e)
@@ -356,7 +358,7 @@ all-marked tables before now cb cn but done core block held old new kept m sb sn
         | inl is ↦ subst (λ of. IfSome of (λ lane. IsMarked tables now (listed_at old lane))) is right
         | inr apart ↦ still-right tables before now cb cn (Some (Cache core)) block.0 (listed_at old lane) sb sn agree
             (λ i ask is c. apart (subst (λ (of : CacheId). Contains (lanes_of old.reached of.0) lane) (sym (same-cache core ask.core c))
-            ((kept.listed lane there).reached i ask is))) (were.marked lane there)
+            ((listed lane there).reached i ask is))) (were.marked lane there)
       ])
     ]
 
@@ -429,11 +431,11 @@ Stays tables before now cb cn but at l = (lane : ℕ) → lane < length l.trees 
     puttable tables before cb (offers_at l lane) ≡ puttable tables now cn (offers_at l lane)
 
 -- so it is where the lanes were counted that have an ask of the core
-pub stays-agreed : (tables : Tables) (before now : State) (cb cn : List Core) (but : Option ℕ) (at : Option Place) (block : ℕ) (l : Laned) → AreLanesKept l →
+pub stays-agreed : (tables : Tables) (before now : State) (cb cn : List Core) (but : Option ℕ) (at : Option Place) (block : ℕ) (l : Laned) → AreListed l →
     before.broken ≡ false → now.broken ≡ false → AgreeBut at block before now cb cn → Stays tables before now cb cn but at l
-stays-agreed tables before now cb cn but at block l kept sb sn agree lane low ne apart =
+stays-agreed tables before now cb cn but at block l listed sb sn agree lane low ne apart =
     same-count tables before now cb cn 0 (offers_at l lane) sb sn
-    (λ i ask is. agree.cores ask.core (λ c. apart ask.core c ((kept.listed lane low).reached i ask is)))
+    (λ i ask is. agree.cores ask.core (λ c. apart ask.core c ((listed lane low).reached i ask is)))
 
 free-alike : (cb cn : List Core) (i : ℕ) (asks : List CoreAsk) (marks : List Bool) → AreAsFree cb cn → offers_by cb i asks marks ≡ offers_by cn i asks marks
 free-alike cb cn i [] marks same = refl
@@ -501,7 +503,7 @@ marked-already tables s lane l e =
     let was : Listed = listed_at l lane in
     let right : was ≡ all_marked tables s was = λ i. record { asks = was.asks; unheld = e i } in
     let all : l.listed ≡ set l.listed lane (all_marked tables s was) = sym (set-get_or l.listed lane nothing_listed) ∙ ap (set l.listed lane) right in
-    λ i. record { trees = l.trees; stocks = l.stocks; listed = all i; lengths = l.lengths; ready = l.ready; reached = l.reached }
+    λ i. record { trees = l.trees; stocks = l.stocks; listed = all i; lengths = l.lengths; ready = l.ready; reached = l.reached; usable = l.usable }
 
 listed-marked : (tables : Tables) (s : State) (lane at : ℕ) (l : Laned) → IsListed l at → lane < length l.listed → IsListed (marked_in tables s lane l) at
 listed-marked tables s lane at l h low =
@@ -519,6 +521,22 @@ listed-marked tables s lane at l h low =
       reached = λ i ask e. h.reached i ask (ap (λ xs. slice_get xs i) (sym same) ∙ e);
     }
 
+-- so it is of all
+pub marked-listed : (tables : Tables) (s : State) (lane : ℕ) (l : Laned) → IsLevel l → lane < length l.trees → AreListed l →
+    AreListed (marked_in tables s lane l)
+marked-listed tables s lane l level there listed at low =
+    let many = level.listed in
+    listed-marked tables s lane at l (listed at low) (omega (arith, there, many))
+
+pub level-marked : (tables : Tables) (s : State) (lane : ℕ) (l : Laned) → IsLevel l → IsLevel (marked_in tables s lane l)
+level-marked tables s lane l h = record {
+  listed = length-set l.listed lane _ ∙ h.listed;
+  lengths = h.lengths;
+  ready = h.ready;
+  few = h.few;
+  rows = h.rows;
+}
+
 listed-counted : (cores : List Core) (lane at : ℕ) (l : Laned) → IsListed l at → IsListed (counted_at cores lane l) at
 listed-counted cores lane at l h = record { offered = h.offered; count = h.count; short = h.short; reached = h.reached }
 
@@ -530,18 +548,6 @@ pub record Opens (tables : Tables) (s : State) (cores : List Core) (lane : ℕ) 
   pub others : KeepsOtherLanes lane old mid
   pub marks : marked ≡ marked_in tables s lane mid
   pub counts : new ≡ counted_at cores lane marked
-
-pub level-opened : (tables : Tables) (s : State) (cores : List Core) (lane : ℕ) (old mid marked new : Laned) →
-    Opens tables s cores lane old mid marked new → IsLevel new
-level-opened tables s cores lane old mid marked new o =
-    let h = o.level in
-    subst IsLevel (sym (o.counts ∙ ap (counted_at cores lane) o.marks)) (record {
-      listed = length-set mid.listed lane _ ∙ h.listed;
-      lengths = h.lengths;
-      ready = length-set mid.ready lane _ ∙ h.ready;
-      few = h.few;
-      rows = h.rows;
-    })
 
 pub one-listed : (tables : Tables) (s : State) (cores : List Core) (lane : ℕ) (old mid marked new : Laned) → Opens tables s cores lane old mid marked new →
     ((at : ℕ) → at < lane → IsListed old at) → (at : ℕ) → at < lane + 1 → IsListed new at

@@ -1,10 +1,10 @@
 -- Lanes that fit in a scenario: what keeps them so, and how few parts they hold.
-use Rattle.std.proofs.Common.{◌≡◌, ℕ, zero, suc, ◌<◌, ◌≤◌, ◌^◌, Bool, true, false, if◌then◌else◌, leb, List, [], ◌∷◌, ◌++◌}
-use Rattle.std.proofs.Common.{length, map, get_or, set, refl, sym, ap, ◌∙◌, subst, arith}
+use Rattle.std.proofs.Common.{◌≡◌, ℕ, zero, suc, ◌+◌, ◌<◌, ◌≤◌, ◌^◌, Bool, true, false, if◌then◌else◌, leb, List, [], ◌∷◌, ◌++◌}
+use Rattle.std.proofs.Common.{length, get_or, set, refl, sym, ap, ◌∙◌, subst, arith}
 use Rattle.std.specs.List.{sum_by}
 use Rattle.std.proofs.lemmas.Bool.{le-leb, lt-leb}
 use Rattle.std.proofs.lemmas.List.Sums.{sum_by-cons}
-use Rattle.cursors.specs.Stock.{FitsIn, Within, nodes, parts_held, room, total_nodes}
+use Rattle.cursors.specs.Stock.{FitsIn, Stock, Within, Empty, With, nodes, parts_in, room, total_nodes}
 use Rattle.scenario.specs.Tree.{Tree, Trees, One, Seq, Any, Times, Both, Nil, Cons, plain, plain_all}
 use Rattle.cursors.specs.declared.cursor.Cursor.{Cursor}
 use Rattle.scenario.specs.declared.tree.Scenario.{Scenario}
@@ -13,69 +13,64 @@ use Rattle.scenario.specs.declared.tree.Scenario.{out-Scenario, roll-Scenario, r
 use Rattle.scenario.specs.declared.tree.Scenario.TheBlock.{shown-the_row-Scenario-0}
 use Rattle.scenario.specs.declared.tree.Scenario.TheVariants as rows
 use Rattle.std.specs.declared.vec.Vec.{Vec}
-use Rattle.cursors.proofs.Stock.{fit-held}
+use Rattle.cursors.proofs.Stock.{room-few}
 use Rattle.lanes.specs.declared.lanes.Lane.{Lane}
-use Rattle.lanes.specs.declared.lanes.Lanes.{Lanes}
-use Rattle.lanes.specs.Fitting.{EachFits, LanesFit, how_many, lane_trees, parts_of_lanes}
-use Rattle.lanes.specs.Lanes.{Stocked, stocked}
+use Rattle.lanes.specs.Fitting.{EachFits, Fits, LanesFit, how_many, lane_trees, parts_of_lanes}
+use Rattle.lanes.specs.Lanes.{Laned, Stocked}
+use Rattle.lanes.specs.inner.Kept.{stocked, stocks_in}
 
 -- ---- what keeps them so
 
--- a cursor of the same parts
-pub fits-stocked : {A B : Type 0} (old new : Cursor A B) (t : Tree) → stocked new ≡ stocked old → FitsIn old t → FitsIn new t
-fits-stocked old new t e h = record {
-  held = subst (λ (s : Stocked). Within s.held (room t)) (sym e) h.held;
-  wanted = subst (λ (s : Stocked). Within s.wanted (room t)) (sym e) h.wanted;
-}
+-- a cursor that fits in a tree, by its parts
+pub fits-cursor : {A B : Type 0} (c : Cursor A B) (t : Tree) → FitsIn c t → Fits (stocked c) t
+fits-cursor c t h = (h.held, h.wanted)
+
+cursor-fits : {A B : Type 0} (c : Cursor A B) (t : Tree) → Fits (stocked c) t → FitsIn c t
+cursor-fits c t h = record { held = h.0; wanted = h.1 }
 
 -- lanes whose cursors are of the same parts
-pub fits-same : {A B : Type 0} (old new : List (Lane A B)) (ts : Trees) →
-    map (λ (l : Lane A B). stocked l.rest) new ≡ map (λ (l : Lane A B). stocked l.rest) old → EachFits old ts → EachFits new ts
-fits-same [] [] ts e h = h
-fits-same [] (y ∷ new) ts e h = absurd (cc e)
-fits-same (x ∷ old) [] ts e h = absurd (cc e)
-fits-same (x ∷ old) (y ∷ new) Nil e h = absurd h
-fits-same (x ∷ old) (y ∷ new) (Cons t ts) e h =
-    let first : stocked y.rest ≡ stocked x.rest = cc e in
-    let others : map (λ l. stocked l.rest) new ≡ map (λ l. stocked l.rest) old = cc e in
-    (fits-stocked x.rest y.rest t first h.0, fits-same old new ts others h.1)
+pub fits-same : (old new : List Stocked) (ts : Trees) → new ≡ old → EachFits old ts → EachFits new ts
+fits-same old new ts e h = subst (λ (ss : List Stocked). EachFits ss ts) (sym e) h
 
 -- one lane is changed, and fits in what it fitted in
 pub fits-set : {A B : Type 0} (lanes : List (Lane A B)) (ts : Trees) (n : ℕ) (old new : Lane A B) → old ≡ get_or lanes n old →
-    ((t : Tree) → FitsIn old.rest t → FitsIn new.rest t) → EachFits lanes ts → EachFits (set lanes n new) ts
+    ((t : Tree) → FitsIn old.rest t → FitsIn new.rest t) → EachFits (stocks_in lanes) ts → EachFits (stocks_in (set lanes n new)) ts
 fits-set [] ts n old new is more h = h
 fits-set (x ∷ lanes) Nil n old new is more h = absurd h
-fits-set (x ∷ lanes) (Cons t ts) zero old new is more h =
+fits-set {A} {B} (x ∷ lanes) (Cons t ts) zero old new is more h =
     let e : old ≡ x = is in
-    (more t (subst (λ (l : Lane _ _). FitsIn l.rest t) (sym e) h.0), h.1)
+    let was : Fits (stocked old.rest) t = subst (λ (l : Lane A B). Fits (stocked l.rest) t) (sym e) h.0 in
+    (fits-cursor new.rest t (more t (cursor-fits old.rest t was)), h.1)
 fits-set (x ∷ lanes) (Cons t ts) (suc n) old new is more h = (h.0, fits-set lanes ts n old new is more h.1)
 
 -- so it is where it fits in its tree
 pub fits-put : {A B C : Type 0} (lanes : List (Lane A B)) (ss : List (Scenario C)) (n : ℕ) (old new : Lane A B) (s : Scenario C) →
     old ≡ get_or lanes n old → s ≡ get_or ss n s → (FitsIn old.rest (plain s) → FitsIn new.rest (plain s)) →
-    EachFits lanes (plain_all ss) → EachFits (set lanes n new) (plain_all ss)
+    EachFits (stocks_in lanes) (plain_all ss) → EachFits (stocks_in (set lanes n new)) (plain_all ss)
 fits-put [] ss n old new s is at more h = h
 fits-put (x ∷ lanes) [] n old new s is at more h = absurd h
 fits-put {A} {B} {C} (x ∷ lanes) (u ∷ ss) zero old new s is at more h =
     let e : old ≡ x = is in
-    let d : s ≡ u = at in (
-      subst (λ (v : Scenario C). FitsIn new.rest (plain v)) d
-          (more (subst (λ (l : Lane A B). FitsIn l.rest (plain s)) (sym e) (subst (λ (v : Scenario C). FitsIn x.rest (plain v)) (sym d) h.0))),
+    let d : s ≡ u = at in
+    let here : Fits (stocked x.rest) (plain s) = subst (λ (v : Scenario C). Fits (stocked x.rest) (plain v)) (sym d) h.0 in
+    let was : Fits (stocked old.rest) (plain s) = subst (λ (l : Lane A B). Fits (stocked l.rest) (plain s)) (sym e) here in (
+      subst (λ (v : Scenario C). Fits (stocked new.rest) (plain v)) d
+          (fits-cursor new.rest (plain s) (more (cursor-fits old.rest (plain s) was))),
       h.1,
     )
 fits-put (x ∷ lanes) (u ∷ ss) (suc n) old new s is at more h = (h.0, fits-put lanes ss n old new s is at more h.1)
 
 -- one lane more, and one tree
 pub fits-push : {A B C : Type 0} (lanes : List (Lane A B)) (ss : List (Scenario C)) (lane : Lane A B) (s : Scenario C) →
-    EachFits lanes (plain_all ss) → FitsIn lane.rest (plain s) → EachFits (lanes ++ lane ∷ []) (plain_all (ss ++ s ∷ []))
-fits-push [] [] lane s h f = (f, tt)
+    EachFits (stocks_in lanes) (plain_all ss) → FitsIn lane.rest (plain s) → EachFits (stocks_in (lanes ++ lane ∷ [])) (plain_all (ss ++ s ∷ []))
+fits-push [] [] lane s h f = (fits-cursor lane.rest (plain s) f, tt)
 fits-push [] (u ∷ ss) lane s h f = absurd h
 fits-push (x ∷ lanes) [] lane s h f = absurd h
 fits-push (x ∷ lanes) (u ∷ ss) lane s h f = (h.0, fits-push lanes ss lane s h.1 f)
 
 -- ---- how many there are
 
-pub fits-many : {A B : Type 0} (lanes : List (Lane A B)) (ts : Trees) → EachFits lanes ts → length lanes ≡ how_many ts
+pub fits-many : {A B : Type 0} (lanes : List (Lane A B)) (ts : Trees) → EachFits (stocks_in lanes) ts → length lanes ≡ how_many ts
 fits-many [] Nil h = refl
 fits-many [] (Cons t ts) h = absurd h
 fits-many (x ∷ lanes) Nil h = absurd h
@@ -90,12 +85,13 @@ pub few-lanes : (ts : Trees) → how_many ts ≤ 2 ^ 31 → lane_trees (Both ts)
 few-lanes ts few = ap (λ b. if b then ts else Cons (Both ts) Nil) (le-leb (how_many ts) (2 ^ 31) few)
 
 -- whether a row has few trees or many, what fits in each of its trees fits in those that it has lanes of
-pub fits-row : {A B : Type 0} (old new : List (Lane A B)) (ts : Trees) → length old ≡ how_many ts → (EachFits old ts → EachFits new ts) →
-    EachFits old (lane_trees (Both ts)) → EachFits new (lane_trees (Both ts))
+pub fits-row : {A B : Type 0} (old new : List (Lane A B)) (ts : Trees) → length old ≡ how_many ts →
+    (EachFits (stocks_in old) ts → EachFits (stocks_in new) ts) → EachFits (stocks_in old) (lane_trees (Both ts)) →
+    EachFits (stocks_in new) (lane_trees (Both ts))
 fits-row {A} {B} old new ts same more = by (leb (how_many ts) (2 ^ 31)) refl
   where
-    by : (b : Bool) → leb (how_many ts) (2 ^ 31) ≡ b → EachFits old (if b then ts else Cons (Both ts) Nil) →
-        EachFits new (if b then ts else Cons (Both ts) Nil)
+    by : (b : Bool) → leb (how_many ts) (2 ^ 31) ≡ b → EachFits (stocks_in old) (if b then ts else Cons (Both ts) Nil) →
+        EachFits (stocks_in new) (if b then ts else Cons (Both ts) Nil)
     by true e h = more h
     by false e h =
         let one = fits-many old (Cons (Both ts) Nil) h in
@@ -104,31 +100,38 @@ fits-row {A} {B} old new ts same more = by (leb (how_many ts) (2 ^ 31)) refl
 
 -- ---- how few parts they hold
 
-each-few : {A B : Type 0} (lanes : List (Lane A B)) (ts : Trees) → EachFits lanes ts →
-    sum_by (λ (l : Lane A B). parts_held l.rest) lanes ≤ total_nodes ts
+fewer : (a b : Stock) → Within a b → parts_in a ≤ parts_in b
+fewer Empty b h = omega arith
+fewer (With own others) Empty h = absurd h
+fewer (With own others) (With own' others') h =
+    let first = fewer own own' h.0 in
+    let more = fewer others others' h.1 in
+    omega (arith, first, more)
+
+each-few : (ss : List Stocked) (ts : Trees) → EachFits ss ts → sum_by (λ (s : Stocked). 1 + parts_in s.held) ss ≤ total_nodes ts
 each-few [] Nil h = omega arith
 each-few [] (Cons t ts) h = absurd h
-each-few (x ∷ lanes) Nil h = absurd h
-each-few (x ∷ lanes) (Cons t ts) h =
-    let one = fit-held x.rest t h.0 in
-    let others = each-few lanes ts h.1 in
-    let all = sum_by-cons (λ l. parts_held l.rest) x lanes in
-    omega (arith, one, others, all)
+each-few (s ∷ ss) Nil h = absurd h
+each-few (s ∷ ss) (Cons t ts) h =
+    let one = fewer s.held (room t) h.0.0 in
+    let node = room-few t in
+    let others = each-few ss ts h.1 in
+    let all = sum_by-cons (λ (s : Stocked). 1 + parts_in s.held) s ss in
+    omega (arith, one, node, others, all)
 
-lanes-few : {A B : Type 0} (lanes : List (Lane A B)) (t : Tree) → EachFits lanes (lane_trees t) →
-    sum_by (λ (l : Lane A B). parts_held l.rest) lanes ≤ nodes t
-lanes-few lanes (One ask) h = let few = each-few lanes (Cons (One ask) Nil) h in omega (arith, few)
-lanes-few lanes (Seq ts) h = let few = each-few lanes (Cons (Seq ts) Nil) h in omega (arith, few)
-lanes-few lanes (Any ts) h = let few = each-few lanes (Cons (Any ts) Nil) h in omega (arith, few)
-lanes-few lanes (Times n t) h = let few = each-few lanes (Cons (Times n t) Nil) h in omega (arith, few)
-lanes-few {A} {B} lanes (Both ts) h = by (leb (how_many ts) (2 ^ 31)) h
+lanes-few : (ss : List Stocked) (t : Tree) → EachFits ss (lane_trees t) → sum_by (λ (s : Stocked). 1 + parts_in s.held) ss ≤ nodes t
+lanes-few ss (One ask) h = let few = each-few ss (Cons (One ask) Nil) h in omega (arith, few)
+lanes-few ss (Seq ts) h = let few = each-few ss (Cons (Seq ts) Nil) h in omega (arith, few)
+lanes-few ss (Any ts) h = let few = each-few ss (Cons (Any ts) Nil) h in omega (arith, few)
+lanes-few ss (Times n t) h = let few = each-few ss (Cons (Times n t) Nil) h in omega (arith, few)
+lanes-few ss (Both ts) h = by (leb (how_many ts) (2 ^ 31)) h
   where
-    by : (b : Bool) → EachFits lanes (if b then ts else Cons (Both ts) Nil) → sum_by (λ (l : Lane A B). parts_held l.rest) lanes ≤ nodes (Both ts)
-    by true h = let few = each-few lanes ts h in omega (arith, few)
-    by false h = let few = each-few lanes (Cons (Both ts) Nil) h in omega (arith, few)
+    by : (b : Bool) → EachFits ss (if b then ts else Cons (Both ts) Nil) → sum_by (λ (s : Stocked). 1 + parts_in s.held) ss ≤ nodes (Both ts)
+    by true h = let few = each-few ss ts h in omega (arith, few)
+    by false h = let few = each-few ss (Cons (Both ts) Nil) h in omega (arith, few)
 
-pub lanes-small : {A B : Type 0} (l : Lanes A B) (t : Tree) → LanesFit l t → parts_of_lanes l ≤ nodes t
-lanes-small l t h = lanes-few l.lanes.items t h
+pub lanes-small : (l : Laned) (t : Tree) → LanesFit l t → parts_of_lanes l ≤ nodes t
+lanes-small l t h = lanes-few l.stocks t h
 
 -- a row of many trees has one lane
 pub many-lanes : (ts : Trees) → 2 ^ 31 < how_many ts → lane_trees (Both ts) ≡ Cons (Both ts) Nil

@@ -1,5 +1,5 @@
 -- What is kept of lanes, and what it says of all offers.
-use Rattle.std.proofs.Common.{◌≡◌, ℕ, zero, suc, ◌+◌, ◌-◌, ◌<◌, ◌≤◌, nat_eq, true, false, if◌then◌else◌, List, [], ◌∷◌, ◌++◌, length, map, take}
+use Rattle.std.proofs.Common.{◌≡◌, ℕ, zero, suc, ◌+◌, ◌-◌, ◌<◌, ◌≤◌, nat_eq, Bool, true, false, if◌then◌else◌, List, [], ◌∷◌, ◌++◌, length, map, take}
 use Rattle.std.proofs.Common.{get_or, slice_get, refl, sym, ap, ◌∙◌, arith}
 use Rattle.std.specs.List.{sum}
 use Rattle.std.proofs.lemmas.List.{length-map, length-append, ext_get_or, get_or-map}
@@ -18,13 +18,40 @@ use Rattle.scenario.specs.Taking.{offers}
 use Rattle.schedule.specs.Choices.{choices_of, offers_from}
 use Rattle.lanes.specs.declared.lanes.Lane.{Lane}
 use Rattle.cursors.specs.Cursors.{remaining}
-use Rattle.lanes.specs.Lanes.{AreReady, AreLanesKept, Laned, listed_at, offers_at, puttable, tree_of_lane, whole}
+use Rattle.lanes.specs.Lanes.{AreReady, Laned, choices_by, listed_at, offers_at, puttable, whole}
+use Rattle.world.specs.View.{View}
+use Rattle.lanes.specs.declared.lanes.Lanes.TheInside.{Inside}
+use Rattle.lanes.specs.inner.Kept.{AreListed, AreSound, IsLevel, IsListed, laned, listed_in, tree_of_lane, trees_in}
 use Rattle.schedule.specs.Listed.{nothing_listed}
 use Rattle.schedule.specs.Marks.{offers_by}
 use Rattle.schedule.specs.declared.choosing.Choice.TheVariants.{Deliver}
 use Rattle.schedule.proofs.Marking.{by-marks}
 use Rattle.lanes.proofs.Offered.{CountsOf, all-counted, all-found}
 use Rattle.lanes.proofs.Rows.{lengths_of, sum-lengths}
+
+-- what holds of lanes that aren't spoilt
+pub record AreLanesKept (l : Laned) : Type 0 where
+  pub level : IsLevel l
+  pub listed : AreListed l
+
+pub are-kept : {A B : Type 0} (l : Inside A B) → AreSound l → l.usable ≡ true → AreLanesKept (laned l)
+are-kept l sound usable = record { level = sound.level; listed = sound.listed usable }
+
+-- so it holds of their fields where it is told of what contracts see
+pub kept-inside : {A B : Type 0} (l : Inside A B) (seen : Laned) → AreSound l → laned l ≡ seen → seen.usable ≡ true → AreLanesKept (laned l)
+kept-inside l seen sound is usable = are-kept l sound (ap (λ (s : Laned). s.usable) is ∙ usable)
+
+-- the choices of lanes that aren't spoilt are those of what is left
+pub choices-usable : (world : View) (cores : List Core) (l : Laned) → l.usable ≡ true →
+    choices_of world.tables world.state cores (whole l) ≡ choices_by world cores l
+choices-usable world cores l usable = sym (ap (λ t. if t then choices_of world.tables world.state cores (whole l) else []) usable)
+
+-- whether lanes are spoilt doesn't change what is kept of them
+pub listed-said : (l : Laned) (b : Bool) (lane : ℕ) → IsListed l lane → IsListed (record l { usable = b }) lane
+listed-said l b lane h = record { offered = h.offered; count = h.count; short = h.short; reached = h.reached }
+
+pub level-said : (l : Laned) (b : Bool) → IsLevel l → IsLevel (record l { usable = b })
+level-said l b h = record { listed = h.listed; lengths = h.lengths; ready = h.ready; few = h.few; rows = h.rows }
 
 -- the lengths are those of what the trees offer
 pub lengths-are : (l : Laned) → AreLanesKept l → l.lengths ≡ lengths_of l.trees
@@ -126,15 +153,15 @@ none-or-some n (ask ∷ asks) e = (λ h. let z : n ≡ 0 = grind (arith, nat_tes
 -- ---- a lane as it is kept
 
 pub lane-listed : {A B : Type 0} (lanes : List (Lane A B)) (p : ℕ) (lane : Lane A B) → p < length lanes → lane ≡ get_or lanes p lane →
-    lane.asks ≡ get_or (map (λ (l : Lane A B). l.asks) lanes) p nothing_listed
+    lane.asks ≡ get_or (listed_in lanes) p nothing_listed
 lane-listed lanes p lane low is =
     ap (λ l. l.asks) is ∙ sym (get_or-map (λ l. l.asks) lanes p lane nothing_listed low)
 
 pub lane-tree : {A B : Type 0} (lanes : List (Lane A B)) (p : ℕ) (lane : Lane A B) → p < length lanes → lane ≡ get_or lanes p lane →
-    remaining lane.rest ≡ get_or (map (λ (l : Lane A B). remaining l.rest) lanes) p (Seq Nil)
+    remaining lane.rest ≡ get_or (trees_in lanes) p (Seq Nil)
 lane-tree lanes p lane low is =
     ap (λ l. remaining l.rest) is ∙ sym (get_or-map (λ l. remaining l.rest) lanes p lane (Seq Nil) low)
 
 pub listed-of-lane : {A B : Type 0} (lanes : List (Lane A B)) (p : ℕ) (d : Lane A B) → p < length lanes →
-    (get_or lanes p d).asks ≡ get_or (map (λ (l : Lane A B). l.asks) lanes) p nothing_listed
+    (get_or lanes p d).asks ≡ get_or (listed_in lanes) p nothing_listed
 listed-of-lane lanes p d low = sym (get_or-map (λ l. l.asks) lanes p d nothing_listed low)

@@ -1,6 +1,6 @@
 -- What listing a lane anew, and taking an offer from it, keeps of the lanes.
 use Rattle.std.proofs.Common.{◌≡◌, ◌≢◌, ℕ, ◌<◌, ◌^◌, inl, inr, length, map, Option, Some, None, get_or, set, slice_get}
-use Rattle.std.proofs.Common.{List, [], ◌≤◌, refl, sym, ap, ◌∙◌, subst, arith}
+use Rattle.std.proofs.Common.{Bool, List, [], ◌≤◌, refl, sym, ap, ◌∙◌, subst, arith}
 use Rattle.std.specs.List.{Contains}
 use Rattle.std.proofs.lemmas.List.{length-map, length-set, map-set, get_or-set_same, get_or-set_other}
 use Rattle.std.proofs.lemmas.Bool.{cases_eq}
@@ -13,14 +13,15 @@ use Rattle.scenario.specs.Alike.{Alike, SeenTree}
 use Rattle.cursors.specs.Repeats.{Repeats}
 use Rattle.scenario.specs.Taking.{left, offers}
 use Rattle.lanes.specs.declared.lanes.Lane.{Lane}
-use Rattle.lanes.specs.declared.lanes.Lanes.{Lanes}
+use Rattle.lanes.specs.declared.lanes.Lanes.TheInside.{Inside}
 use Rattle.cursors.specs.Cursors.{remaining}
-use Rattle.lanes.specs.Lanes.{laned, AreLanesKept, IsLevel, IsListed, Laned, lanes_of, listed_at, offers_at, stocked, tree_of_lane, whole}
+use Rattle.lanes.specs.Lanes.{Laned, listed_at, offers_at, whole}
+use Rattle.lanes.specs.inner.Kept.{IsLevel, IsListed, laned, lanes_of, stocked, tree_of_lane}
 use Rattle.schedule.specs.Listed.{Listed, nothing_listed}
 use Rattle.schedule.specs.Marks.{all_marked}
 use Rattle.lanes.specs.inner.Changes.{KeepsOtherLanes, TakesFrom, marked_in}
 use Rattle.std.proofs.Math.Seq.{map-set_same}
-use Rattle.lanes.proofs.Kept.{found-within, lane-listed, lane-tree, lengths-are}
+use Rattle.lanes.proofs.Kept.{AreLanesKept, found-within, lane-listed, lane-tree, lengths-are, listed-said}
 use Rattle.lanes.proofs.Rows.{lengths_of, taken-there}
 
 -- a lane was listed anew
@@ -99,9 +100,15 @@ listed-still lane t old mid s other ne h =
           (h.reached at ask (ap (λ xs. slice_get xs at) (sym same) ∙ e));
     }
 
+-- an offer was taken, and what is kept of each lane is right
+pub record Took (lane offer : ℕ) (old new : Laned) : Type 0 where
+  pub takes : TakesFrom lane offer old new
+  pub kept : AreLanesKept new
+
 pub takes-from : (lane offer rest : ℕ) (t : Tree) (old mid new : Laned) → AreLanesKept old → Finds old.lengths offer lane rest →
-    Alike t (left (tree_of_lane old lane) rest) → Steps lane t old mid → new.trees ≡ mid.trees → IsLevel new → IsListed new lane → KeepsOtherLanes lane mid new →
-    TakesFrom lane offer old new
+    Alike t (left (tree_of_lane old lane) rest) → Steps lane t old mid → new.trees ≡ mid.trees → IsLevel new → IsListed new lane →
+    KeepsOtherLanes lane mid new →
+    Took lane offer old new
 takes-from lane offer rest t old mid new kept found alike steps trees level listed others =
     let finds : Finds (lengths_of old.trees) offer lane rest = subst (λ ns. Finds ns offer lane rest) (lengths-are old kept) found in
     let low : lane < length old.trees = (let h = found-within old.lengths lane rest found.within in let m = kept.level.lengths in omega (arith, h, m)) in
@@ -109,9 +116,17 @@ takes-from lane offer rest t old mid new kept found alike steps trees level list
     let still : (other : ℕ) → other ≢ lane → IsListed old other → IsListed new other =
     λ other ne h. others.listed other ne (listed-still lane t old mid steps other ne h) in
     record {
-      there = low;
-      rest = subst (λ ts. Alike (Both (trees_of ts)) (left (whole old) offer)) (sym (trees ∙ steps.trees))
-          (taken-there old.trees offer lane rest t finds alike);
+      takes = record {
+        there = low;
+        rest = subst (λ ts. Alike (Both (trees_of ts)) (left (whole old) offer)) (sym (trees ∙ steps.trees))
+            (taken-there old.trees offer lane rest t finds alike);
+        others = record {
+          count = many;
+          ready = others.ready ∙ steps.ready;
+          same = λ other ne. others.same other ne ∙ ap (λ xs. get_or xs other nothing_listed) steps.listed;
+          listed = still;
+        };
+      };
       kept = record {
         level = level;
         listed = λ other h. elim (cases_eq other lane) [
@@ -119,13 +134,16 @@ takes-from lane offer rest t old mid new kept found alike steps trees level list
           | inr ne ↦ still other ne (kept.listed other (omega (arith, h, many)))
         ];
       };
-      others = record {
-        count = many;
-        ready = others.ready ∙ steps.ready;
-        same = λ other ne. others.same other ne ∙ ap (λ xs. get_or xs other nothing_listed) steps.listed;
-        listed = still;
-      };
     }
+
+-- the other lanes are kept, whether or not they are spoilt
+pub others-said : (lane : ℕ) (old new : Laned) (b : Bool) → KeepsOtherLanes lane old new → KeepsOtherLanes lane old (record new { usable = b })
+others-said lane old new b o = record {
+  count = o.count;
+  ready = o.ready;
+  same = o.same;
+  listed = λ other ne h. listed-said new b other (o.listed other ne h);
+}
 
 abbrev seen-offers : Option SeenTree → List CoreAsk
 seen-offers None = []
@@ -157,7 +175,7 @@ steps-level lane t old mid level s =
     }
 
 pub takes-again : (lane offer rest : ℕ) (t : Tree) (old mid : Laned) → AreLanesKept old → Finds old.lengths offer lane rest →
-    Alike t (left (tree_of_lane old lane) rest) → Repeats (tree_of_lane old lane) → Steps lane t old mid → TakesFrom lane offer old mid
+    Alike t (left (tree_of_lane old lane) rest) → Repeats (tree_of_lane old lane) → Steps lane t old mid → Took lane offer old mid
 takes-again lane offer rest t old mid kept found alike repeats steps =
     let low : lane < length old.trees = (let h = found-within old.lengths lane rest found.within in let m = kept.level.lengths in omega (arith, h, m)) in
     takes-from lane offer rest t old mid mid kept found alike steps refl (steps-level lane t old mid kept.level steps)
@@ -166,10 +184,32 @@ takes-again lane offer rest t old mid kept found alike repeats steps =
 
 -- ---- the same of lanes as they are kept
 
-pub lane-low : {A B : Type 0} (l : Lanes A B) (lane : ℕ) → lane < length (laned l).trees → lane < length l.lanes.items
+pub lane-low : {A B : Type 0} (l : Inside A B) (lane : ℕ) → lane < length (laned l).trees → lane < length l.lanes.items
 lane-low l lane low = let many = length-map l.lanes.items (λ x. remaining x.rest) in omega (arith, low, many)
 
-pub lane-relists : {A B : Type 0} (l new : Lanes A B) (lane n : ℕ) (old made : Lane A B) → lane < length l.lanes.items → old ≡ get_or l.lanes.items lane old →
+-- as much is kept of each lane as before
+pub level-still : {A B : Type 0} (l new : Inside A B) → length new.lanes.items ≡ length l.lanes.items → length new.lengths ≡ length l.lengths →
+    length new.ready ≡ length l.ready → length new.reached.items ≡ length l.reached.items → IsLevel (laned l) → IsLevel (laned new)
+level-still l new lanes lengths ready reached h =
+    let trees = length-map l.lanes.items (λ x. remaining x.rest) in
+    let trees' = length-map new.lanes.items (λ x. remaining x.rest) in
+    let asks' = length-map new.lanes.items (λ x. x.asks) in
+    let rows = length-map l.reached.items (λ of. of.items) in
+    let rows' = length-map new.reached.items (λ of. of.items) in
+    let a = h.listed in
+    let b = h.lengths in
+    let c = h.ready in
+    let d = h.few in
+    let e = h.rows in
+    record {
+      listed = omega (arith, trees', asks');
+      lengths = omega (arith, lanes, lengths, trees, trees', b);
+      ready = omega (arith, lanes, ready, trees, trees', c);
+      few = omega (arith, lanes, trees, trees', d);
+      rows = omega (arith, reached, rows, rows', e);
+    }
+
+pub lane-relists : {A B : Type 0} (l new : Inside A B) (lane n : ℕ) (old made : Lane A B) → lane < length l.lanes.items → old ≡ get_or l.lanes.items lane old →
     new.lanes.items ≡ set l.lanes.items lane made → remaining made.rest ≡ remaining old.rest → made.asks.asks ≡ offers (remaining old.rest) →
     new.lengths ≡ set l.lengths lane n → n ≡ length made.asks.asks → n < 2 ^ 32 → new.ready ≡ l.ready →
     ((core other : ℕ) → Contains (lanes_of (laned l).reached core) other → Contains (lanes_of (laned new).reached core) other) →
@@ -189,7 +229,7 @@ lane-relists l new lane n old made low is lanes rest listed lengths count short 
       is = listed ∙ ap offers (lane-tree l.lanes.items lane old low is);
     }
 
-pub lane-steps : {A B : Type 0} (l mid : Lanes A B) (lane : ℕ) (old made : Lane A B) → old ≡ get_or l.lanes.items lane old →
+pub lane-steps : {A B : Type 0} (l mid : Inside A B) (lane : ℕ) (old made : Lane A B) → old ≡ get_or l.lanes.items lane old →
     mid.lanes.items ≡ set l.lanes.items lane made → made.asks ≡ old.asks → mid.lengths ≡ l.lengths → mid.ready ≡ l.ready →
     mid.reached ≡ l.reached → Steps lane (remaining made.rest) (laned l) (laned mid)
 lane-steps l mid lane old made is lanes same lengths ready reached = record {
@@ -201,10 +241,11 @@ lane-steps l mid lane old made is lanes same lengths ready reached = record {
 }
 
 -- a lane that is marked anew
-pub lane-marked : {A B : Type 0} (tables : Tables) (state : State) (l new : Lanes A B) (lane : ℕ) (old made : Lane A B) → lane < length l.lanes.items →
+pub lane-marked : {A B : Type 0} (tables : Tables) (state : State) (l new : Inside A B) (lane : ℕ) (old made : Lane A B) → lane < length l.lanes.items →
     old ≡ get_or l.lanes.items lane old → new.lanes.items ≡ set l.lanes.items lane made → made.rest ≡ old.rest → made.asks ≡ all_marked tables state old.asks →
-    new.lengths ≡ l.lengths → new.ready ≡ l.ready → new.reached ≡ l.reached → laned new ≡ marked_in tables state lane (laned l)
-lane-marked tables state l new lane old made low is lanes rest asks lengths ready reached =
+    new.lengths ≡ l.lengths → new.ready ≡ l.ready → new.reached ≡ l.reached → new.usable ≡ l.usable →
+    laned new ≡ marked_in tables state lane (laned l)
+lane-marked tables state l new lane old made low is lanes rest asks lengths ready reached usable =
     let trees = ap (map (λ x. remaining x.rest)) lanes
     ∙ map-set_same (λ x. remaining x.rest) l.lanes.items lane made old (ap remaining rest ∙ ap (λ x. remaining x.rest) is) in
     let stocks = ap (map (λ x. stocked x.rest)) lanes
@@ -212,10 +253,18 @@ lane-marked tables state l new lane old made low is lanes rest asks lengths read
     let listed = ap (map (λ x. x.asks)) lanes ∙ map-set (λ x. x.asks) l.lanes.items lane made
     ∙ ap (set (map (λ x. x.asks) l.lanes.items) lane) (asks ∙ ap (all_marked tables state) (lane-listed l.lanes.items lane old low is)) in
     let rows = ap (λ v. map (λ of. of.items) v.items) reached in
-    λ i. record { trees = trees i; stocks = stocks i; listed = listed i; lengths = lengths i; ready = ready i; reached = rows i }
+    λ i. record {
+      trees = trees i;
+      stocks = stocks i;
+      listed = listed i;
+      lengths = lengths i;
+      ready = ready i;
+      reached = rows i;
+      usable = usable i;
+    }
 
 -- what a lane offers, where it is kept
-pub lane-is : {A B : Type 0} (l new : Lanes A B) (lane : ℕ) (made : Lane A B) → lane < length l.lanes.items → new.lanes.items ≡ set l.lanes.items lane made →
+pub lane-is : {A B : Type 0} (l new : Inside A B) (lane : ℕ) (made : Lane A B) → lane < length l.lanes.items → new.lanes.items ≡ set l.lanes.items lane made →
     listed_at (laned new) lane ≡ made.asks
 lane-is l new lane made low lanes =
     ap (λ xs. get_or (map (λ x. x.asks) xs) lane nothing_listed) lanes

@@ -6,7 +6,7 @@ use Rattle.std.proofs.lemmas.List.{length-set, length-map, map-set, get_or-map, 
 use Rattle.std.proofs.lemmas.Bool.{cases_eq, cases_lt}
 use Rattle.std.proofs.lemmas.Option.{slice_get-get_or}
 use Rattle.base.specs.declared.step.CoreAsk.{CoreAsk}
-use Rattle.lanes.specs.Lanes.{lanes_of, row_of_core}
+use Rattle.lanes.specs.inner.Kept.{lanes_of, row_of_core}
 
 -- a row that got more
 row-set : (rows : List (List ℕ)) (row core : ℕ) (v : List ℕ) → row_of_core (set rows row v) core ≡ row_of_core rows core

@@ -1,14 +1,13 @@
 -- Choices by the lane of an offer, and its place there.
-use Rattle.std.specs.Prelude.{◌≡◌, ◌+◌, ◌<◌, Bool, List, false, length, take}
+use Rattle.std.specs.Prelude.{◌≡◌, ◌+◌, ◌<◌, Bool, List, false, true, length, take}
 use Rattle.std.specs.List.{sum}
 use Rattle.machine.specs.declared.made.Made.{Made}
 use Rattle.machine.specs.Machine.{State}
 use Rattle.cores.specs.Cores.{Core}
-use Rattle.lanes.specs.Lanes.{AreAsFree, AreLanesKept, AreLeft, AreReady, FollowsStep, Laned, laned, offers_at, whole}
+use Rattle.lanes.specs.Lanes.{AreAsFree, AreLeft, AreReady, AreReadyIn, FollowsStep, Laned, offers_at, whole}
 use Rattle.schedule.specs.Choices.{chosen_step, rest_after}
 use Rattle.schedule.specs.declared.choosing.Choice.{Choice}
 use Rattle.schedule.specs.declared.choosing.Choice.TheVariants as choice
-use Rattle.lanes.specs.declared.lanes.Lanes.{Lanes}
 use Rattle.lanes.specs.declared.picking.Pick.{Pick}
 use Rattle.lanes.specs.declared.picking.Pick.TheVariants.{Offer, Deliver}
 use Rattle.world.specs.View.{View}
@@ -23,15 +22,15 @@ abbrev pub IsPicked : Pick → Laned → Type 0
 IsPicked (Offer lane place ask) l = (lane < length l.trees) × (place < length (offers_at l lane))
 IsPicked (Deliver s) l = Unit {0}
 
--- what is kept of each lane is right, and a pick is of them
-pub record HasPick {A B : Type 0} (pick : Pick) (l : Lanes A B) : Type 0 where
-  pub kept : AreLanesKept (laned l)
-  pub picked : IsPicked pick (laned l)
+-- lanes aren't spoilt, and a pick is of them
+pub record HasPick (l : Laned) (pick : Pick) : Type 0 where
+  pub usable : l.usable ≡ true
+  pub picked : IsPicked pick l
 
 -- a pick was followed: what is left is what is left behind its choice. Where the marks and counts were right at the moment before its step,
 -- they are right at that behind it; but if no core may have turned, this is promised where none has
-pub record FollowsPick {A B : Type 0} (pick : Pick) (made : Made) (turned : Bool) (world : View) (cores : List Core) (old new : Lanes A B) : Type 0 where
-  pub left : AreLeft (rest_after (choice_of (laned old) pick) (whole (laned old))) (laned new)
-  pub ready : (before : State) (cores_before : List Core) → AreReady world.tables before cores_before (laned old) →
-      FollowsStep world.tables (chosen_step (choice_of (laned old) pick)) made before world.state cores_before cores →
-      (turned ≡ false → AreAsFree cores_before cores) → AreReady world.tables world.state cores (laned new)
+pub record FollowsPick (pick : Pick) (made : Made) (turned : Bool) (world : View) (cores : List Core) (old new : Laned) : Type 0 where
+  pub left : AreLeft (rest_after (choice_of old pick) (whole old)) new
+  pub ready : (before : State) (cores_before : List Core) → AreReady world.tables before cores_before old →
+      FollowsStep world.tables (chosen_step (choice_of old pick)) made before world.state cores_before cores →
+      (turned ≡ false → AreAsFree cores_before cores) → AreReadyIn world cores new

@@ -9,6 +9,7 @@ use cursors::Cursor;
 use rows::Sums;
 use schedule::Asks;
 use std::alloc::Allocator;
+use std::marker::Model;
 
 /// What is left of a scenario, by its lanes: the trees that go on at once at its top, or itself alone where it is no such row.
 ///
@@ -17,6 +18,8 @@ use std::alloc::Allocator;
 /// that core the offers about the step's block are marked again, and what can be put of these lanes is counted by the marks.
 ///
 /// A lane has at most 4,294,967,295 offers at once, which would take over 100 GB: more of them are refused for want of memory.
+///
+/// Where memory was refused lanes are spoilt: they have no choice, and are of use again once they are restarted.
 pub struct Lanes<'s, A: Allocator, B: Allocator> {
     lanes: Vec<Lane<'s, A, B>>,
     // Of each lane how many offers it has, and how many of them can be put.
@@ -24,6 +27,24 @@ pub struct Lanes<'s, A: Allocator, B: Allocator> {
     ready: Sums,
     // For each core the lanes that may offer an ask of it. A lane too many costs a count.
     reached: Vec<Vec<u32>>,
+    // Whether what is kept of each lane is right. Where it isn't, the lanes are spoilt.
+    usable: bool,
+}
+
+impl<'s, A: Allocator, B: Allocator> Model for Lanes<'s, A, B> {
+    ghost use Rattle.std.specs.Coded.{codes};
+    ghost use Rattle.lanes.specs.Lanes.{Laned};
+    ghost use Rattle.lanes.specs.inner.Code.{stock_code, tree_code};
+
+    ghost Value = { Laned };
+
+    ghost coded = { Prim.hlevel (codes, tree_code, stock_code) };
+
+    ghost use Rattle.lanes.specs.inner.Kept.{AreSound, laned};
+
+    ghost view = { laned };
+
+    ghost invariant = { AreSound };
 }
 
 impl<'s, A: Allocator, B: Allocator> Drop for Lanes<'s, A, B> {
@@ -34,6 +55,7 @@ impl<'s, A: Allocator, B: Allocator> Drop for Lanes<'s, A, B> {
             lengths: _,
             ready: _,
             reached: _,
+            usable: _,
         } = self;
     }
 }

@@ -1,4 +1,3 @@
-pub mod Code
 pub mod Holding
 pub mod Noting
 pub mod Tracked

@@ -16,15 +16,14 @@ use world::World;
 pub struct Moment<'s, A: Allocator, B: Allocator> {
     world: World,
     cores: Cores,
+    // The moment is spoilt where these are.
     lanes: Lanes<'s, A, B>,
-    // Whether it isn't spoilt.
-    usable: bool,
 }
 
 impl<'s, A: Allocator, B: Allocator> Model for Moment<'s, A, B> {
     ghost use Rattle.std.specs.Coded.{codes};
+    ghost use Rattle.lanes.specs.inner.Code.{tree_code};
     ghost use Rattle.moment.specs.Seen.{Seen};
-    ghost use Rattle.moment.specs.inner.Code.{tree_code};
 
     ghost Value = { Seen };
 
@@ -44,7 +43,6 @@ impl<'s, A: Allocator, B: Allocator> Drop for Moment<'s, A, B> {
             world: _,
             cores: _,
             lanes: _,
-            usable: _,
         } = self;
     }
 }
@@ -73,7 +71,6 @@ impl<'s, A: Allocator, B: Allocator + Clone> Moment<'s, A, B> {
             world,
             cores,
             lanes,
-            usable: true,
         })
     }
 
@@ -84,13 +81,12 @@ impl<'s, A: Allocator, B: Allocator + Clone> Moment<'s, A, B> {
         ensures ok { OnOk result (IsAt self.new (opened_moment self.old.shape self.old.opening (plain scenario.entry.now))) }
         ensures err { OnErr result (self.new.now ≡ None) }
     {
-        self.usable = false;
+        self.lanes.spoil();
         let caches = self.world.shape().caches();
         self.world.restart();
         self.cores.reset(caches)?;
         self.lanes
             .restart(alloc, scenario, caches, &self.world, &self.cores)?;
-        self.usable = true;
         Ok(())
     }
 
@@ -106,14 +102,13 @@ impl<'s, A: Allocator, B: Allocator + Clone> Moment<'s, A, B> {
         };
         let step = pick.step();
         let Ok(made) = self.world.make(step) else {
-            self.usable = false;
+            self.lanes.spoil();
             return Err(NoMemory);
         };
         let turned = note(&mut self.cores, step, made.outcome);
         let (world, cores) = (&self.world, &self.cores);
         let lanes = &mut self.lanes;
         let Ok(()) = lanes.follow(alloc, &pick, &made, turned, world, cores) else {
-            self.usable = false;
             return Err(NoMemory);
         };
         Ok((step, made))
@@ -129,9 +124,6 @@ impl<'s, A: Allocator, B: Allocator> Moment<'s, A, B> {
     pub fn count(&self) -> u64
         ensures { result ≡ length (choices_in self.now) }
     {
-        if !self.usable {
-            return 0;
-        }
         self.lanes.count(&self.world, &self.cores)
     }
 
@@ -139,7 +131,7 @@ impl<'s, A: Allocator, B: Allocator> Moment<'s, A, B> {
     pub fn is_at_rest(&self) -> bool
         ensures { (result ≡ true) ↔ Rests self.now }
     {
-        self.usable && self.lanes.is_done() && self.world.empty() && self.cores.all_free()
+        self.lanes.is_done() && self.world.empty() && self.cores.all_free()
     }
 
     /// The world.

@@ -1,5 +1,5 @@
 -- What changing a lane leaves of the lanes.
-use Rattle.std.specs.Prelude.{◌≡◌, ◌≢◌, ◌<◌, ◌+◌, ◌⊎◌, ℕ, Bool, true, false, List, Option, Some, IfSome, length, take, slice_index, slice_index_or, slice_set}
+use Rattle.std.specs.Prelude.{◌≡◌, ◌≢◌, ◌<◌, ◌+◌, ◌⊎◌, ℕ, Bool, false, List, Option, Some, IfSome, length, take, slice_index, slice_index_or, slice_set}
 use Rattle.std.specs.List.{sum}
 use Rattle.base.specs.Steps.{block_of}
 use Rattle.base.specs.declared.step.Step.{Step}
@@ -16,7 +16,8 @@ use Rattle.cores.specs.Cores.{Core, is_free}
 use Rattle.scenario.specs.Alike.{Alike}
 use Rattle.scenario.specs.Taking.{left}
 use Rattle.schedule.specs.Choices.{rest_after}
-use Rattle.lanes.specs.Lanes.{Laned, AreLanesKept, AreReady, FollowsStep, IsListed, lanes_of, listed_at, offers_at, puttable, whole}
+use Rattle.lanes.specs.Lanes.{Laned, AreReady, FollowsStep, listed_at, offers_at, puttable, whole}
+use Rattle.lanes.specs.inner.Kept.{AreListed, IsListed, lanes_of}
 use Rattle.lanes.specs.Picks.{choice_of}
 use Rattle.lanes.specs.declared.picking.Pick.{Pick}
 use Rattle.schedule.specs.Listed.{IsMarked, Listed, nothing_listed}
@@ -36,7 +37,6 @@ pub record KeepsOtherLanes (lane : ℕ) (old new : Laned) : Type 0 where
 pub record TakesFrom (lane offer : ℕ) (old new : Laned) : Type 0 where
   pub there : lane < length old.trees
   pub rest : Alike (whole new) (left (whole old) offer)
-  pub kept : AreLanesKept new
   pub others : KeepsOtherLanes lane old new
 
 -- the offer at a place of a lane was taken, which has as many before it as the lanes before it have, and its place
@@ -94,6 +94,7 @@ pub record ChangesMarks (old new : Laned) : Type 0 where
   pub lengths : new.lengths ≡ old.lengths
   pub ready : new.ready ≡ old.ready
   pub reached : new.reached ≡ old.reached
+  pub usable : new.usable ≡ old.usable
   pub long : length new.listed ≡ length old.listed
   pub asks : (lane : ℕ) → offers_at new lane ≡ offers_at old lane
 
@@ -158,10 +159,10 @@ WereReadyBut world old new but = (before : State) (cores_before : List Core) →
     AreReady world.tables before cores_before old → WereReady world.tables before cores_before world.state but new
 
 -- behind a step about a block, which came to this, the marks are right, where they were before it but for one lane at most, and those of the
--- lane that was done are
+-- lane that was done are; if what is kept of each lane is right
 abbrev pub MarksAgain : Tables → Made → BlockId → Option ℕ → Laned → Laned → Type 0
 MarksAgain tables made block done old new = (now : State) (step : Step) (before : State) (cores_before cores_now : List Core) (but : Option ℕ) →
-    IfSome done (λ lane. IsMarked tables now (listed_at old lane)) → before.broken ≡ false → now.broken ≡ false → block.0 ≡ block_of step →
+    AreListed old → IfSome done (λ lane. IsMarked tables now (listed_at old lane)) → before.broken ≡ false → now.broken ≡ false → block.0 ≡ block_of step →
     FollowsStep tables step made before now cores_before cores_now → WereReady tables before cores_before now but old → AreMarked tables now new
 
 -- two moments agree on a core: on whether it is free, and on the lines of its cache

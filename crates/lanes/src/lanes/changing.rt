@@ -6,8 +6,8 @@ ghost use Rattle.base.specs.declared.ids.CacheId.{CacheId};
 ghost use Rattle.base.specs.declared.ids.Place.TheVariants.{Cache};
 ghost use Rattle.base.specs.declared.step.CoreAsk.{CoreAsk};
 ghost use Rattle.machine.specs.Made.{place_of};
-ghost use Rattle.lanes.specs.Lanes.{lanes_of};
 ghost use Rattle.lanes.specs.inner.Changes.{IsCountedIn};
+ghost use Rattle.lanes.specs.inner.Kept.{lanes_of, listed_in};
 
 use super::{Lane, Lanes};
 use crate::picking::Pick;
@@ -19,19 +19,21 @@ use std::alloc::Allocator;
 use world::World;
 
 impl<'s, A: Allocator, B: Allocator + Clone> Lanes<'s, A, B> {
-    ghost use Rattle.std.specs.Prelude.{◌≡◌, ◌<◌, OnOk, IfOk, length};
+    ghost use Rattle.std.specs.Prelude.{◌≡◌, ◌<◌, MatchResult, OnErr, OnOk, IfOk, length, slice_index, true};
     ghost use Rattle.scenario.specs.Tree.{Tree};
     ghost use Rattle.lanes.specs.Fitting.{LanesFit};
-    ghost use Rattle.lanes.specs.Lanes.{AreLanesKept, IsLevel, IsListed, laned, offers_at};
+    ghost use Rattle.lanes.specs.Lanes.{IsSpoilt, listed_at, offers_at};
     ghost use Rattle.lanes.specs.Picks.{FollowsPick, HasPick};
+    ghost use Rattle.lanes.specs.inner.Kept.{IsLevel, IsListed};
     ghost use Rattle.lanes.specs.inner.Changes.{AreCountedAt, ChangesCounts, EachIsCountedAt, EachIsCountedIf, EachIsCountedOf, IsLaneMarkedIf};
-    ghost use Rattle.lanes.specs.inner.Changes.{IsLeftBehind, IsMarkedAnew, IsReachedAt, IsLaneThere, KeepsOtherLanes, TakesPlace, WereReadyBut, counted_at};
+    ghost use Rattle.lanes.specs.inner.Changes.{IsLaneThere, IsLeftBehind, IsMarkedAnew, IsReachedAt, KeepsOtherLanes, TakesPlace};
+    ghost use Rattle.lanes.specs.inner.Changes.{WereReadyBut, count_by, counted_at};
 
     /// Follows a pick that was made, by a step that came to this: an offer is taken, what is made anew for it is `alloc`'s, and the
     /// lanes that this and the step changed are marked and counted again. It is told whether a core may have turned: whether one
     /// is free that wasn't, or the other way round.
     ///
-    /// Where memory is refused, the lanes are of no more use.
+    /// Where memory is refused, the lanes are spoilt.
     // Inlined with all that it calls: trials that keep their entries and those that count them are two loops, so each call would be one.
     #[inline(always)]
     pub fn follow(
@@ -43,11 +45,14 @@ impl<'s, A: Allocator, B: Allocator + Clone> Lanes<'s, A, B> {
         world: &World,
         cores: &Cores,
     ) -> Result<(), NoMemory>
-        requires { HasPick pick.now self.old }
-        ensures ok { OnOk result (FollowsPick pick.now made.now turned world.now cores.now self.old self.new) }
+        requires { HasPick self.old pick.now }
+        ensures made { MatchResult result
+            (λ _. FollowsPick pick.now made.now turned world.now cores.now self.old self.new)
+            (λ _. IsSpoilt self.new) }
         ensures fits { (tree : Tree) → LanesFit self.old tree → LanesFit self.new tree }
     {
         let anew = self.take_picked(alloc, pick, world)?;
+        prove!(self.usable);
         let marked = self.mark_again(anew, made, pick.step().block(), world);
         let at = changed_at(turned, marked, made);
         self.count_at(at, cores);
@@ -63,12 +68,13 @@ impl<'s, A: Allocator, B: Allocator + Clone> Lanes<'s, A, B> {
         pick: &Pick,
         world: &World,
     ) -> Result<Option<usize>, NoMemory>
-        requires { HasPick pick.now self.old }
-        ensures rest { OnOk result (IsLeftBehind pick.now (laned self.old) (laned self.new)) }
-        ensures kept { OnOk result (AreLanesKept (laned self.new)) }
-        ensures there { IfOk result (IsLaneThere (laned self.new)) }
-        ensures marked { IfOk result (IsMarkedAnew world.now (laned self.new)) }
-        ensures were { IfOk result (WereReadyBut world.now (laned self.old) (laned self.new)) }
+        requires { HasPick self.old pick.now }
+        ensures spoilt { OnErr result (IsSpoilt self.new) }
+        ensures usable { OnOk result (self.new.usable ≡ true) }
+        ensures rest { OnOk result (IsLeftBehind pick.now self.old self.new) }
+        ensures there { IfOk result (IsLaneThere self.new) }
+        ensures marked { IfOk result (IsMarkedAnew world.now self.new) }
+        ensures were { IfOk result (WereReadyBut world.now self.old self.new) }
         ensures fits { (tree : Tree) → LanesFit self.old tree → LanesFit self.new tree }
     {
         match *pick {
@@ -83,9 +89,8 @@ impl<'s, A: Allocator, B: Allocator + Clone> Lanes<'s, A, B> {
     /// Counts again what can be put of each lane that may offer an ask of the core whose cache a step went to.
     #[inline(always)]
     fn count_at(&mut self, at: Option<Place>, cores: &Cores)
-        requires { AreLanesKept (laned self.old) }
-        ensures counts { ChangesCounts (laned self.old) (laned self.new) }
-        ensures each { EachIsCountedAt cores.now at (laned self.old) (laned self.new) }
+        ensures counts { ChangesCounts self.old self.new }
+        ensures each { EachIsCountedAt cores.now at self.old self.new }
     {
         if let Some(core) = cache_of(at) {
             self.count_core(core, cores);
@@ -96,11 +101,10 @@ impl<'s, A: Allocator, B: Allocator + Clone> Lanes<'s, A, B> {
     /// cache a step went to.
     #[inline(always)]
     fn count_anew(&mut self, anew: Option<usize>, at: Option<Place>, cores: &Cores)
-        requires kept { AreLanesKept (laned self.old) }
-        requires there { IsLaneThere (laned self.old) anew }
-        requires counted { AreCountedAt cores.now at (laned self.old) }
-        ensures counts { ChangesCounts (laned self.old) (laned self.new) }
-        ensures each { EachIsCountedIf cores.now anew (laned self.old) (laned self.new) }
+        requires there { IsLaneThere self.old anew }
+        requires counted { AreCountedAt cores.now at self.old }
+        ensures counts { ChangesCounts self.old self.new }
+        ensures each { EachIsCountedIf cores.now anew self.old self.new }
     {
         let Some(lane) = anew else {
             return;
@@ -114,9 +118,8 @@ impl<'s, A: Allocator, B: Allocator + Clone> Lanes<'s, A, B> {
     /// Whether a lane is among those that may offer an ask of the core whose cache this is.
     #[inline(always)]
     fn is_reached(&self, at: Option<Place>, lane: usize) -> bool
-        requires kept { AreLanesKept (laned self.now) }
-        requires there { lane < length (laned self.now).trees }
-        ensures { result ≡ true → IsReachedAt at (laned self.now) lane }
+        requires { lane < length self.now.trees }
+        ensures { result ≡ true → IsReachedAt at self.now lane }
     {
         match cache_of(at) {
             Some(core) => {
@@ -137,32 +140,39 @@ impl<'s, A: Allocator, B: Allocator + Clone> Lanes<'s, A, B> {
         place: usize,
         world: &World,
     ) -> Result<bool, NoMemory>
-        requires kept { AreLanesKept (laned self.old) }
-        requires there { lane < length (laned self.old).trees }
-        requires offered { place < length (offers_at (laned self.old) lane) }
-        ensures takes { OnOk result (TakesPlace lane place (laned self.old) (laned self.new)) }
-        ensures marks { IfOk result (IsLaneMarkedIf world.now lane (laned self.old) (laned self.new)) }
+        requires usable { self.old.usable ≡ true }
+        requires there { lane < length self.old.trees }
+        requires offered { place < length (offers_at self.old lane) }
+        ensures spoilt { OnErr result (IsSpoilt self.new) }
+        ensures usable { OnOk result (self.new.usable ≡ true) }
+        ensures takes { OnOk result (TakesPlace lane place self.old self.new) }
+        ensures marks { IfOk result (IsLaneMarkedIf world.now lane self.old self.new) }
         ensures fits { (tree : Tree) → LanesFit self.old tree → LanesFit self.new tree }
     {
+        self.usable = false;
         let repeats = self.lanes[lane].rest.pass_on(alloc, place)?;
         if repeats {
+            self.usable = true;
             return Ok(false);
         }
         let anew = self.list(lane, world)?;
+        self.usable = true;
         Ok(anew)
     }
 
-    /// Lists anew what a lane offers, and answers whether it was marked. Where that is what it offered before, the marks stay.
+    /// Lists anew what a lane of spoilt lanes offers, and answers whether it was marked. Where that is what it offered before, the marks
+    /// stay.
     #[inline(always)]
     pub(super) fn list(&mut self, lane: usize, world: &World) -> Result<bool, NoMemory>
-        requires level { IsLevel (laned self.old) }
-        requires there { lane < length (laned self.old).trees }
-        ensures trees { OnOk result ((laned self.new).trees ≡ (laned self.old).trees) }
-        ensures stocks { (laned self.new).stocks ≡ (laned self.old).stocks }
-        ensures level { OnOk result (IsLevel (laned self.new)) }
-        ensures listed { OnOk result (IsListed (laned self.new) lane) }
-        ensures others { OnOk result (KeepsOtherLanes lane (laned self.old) (laned self.new)) }
-        ensures marks { IfOk result (IsLaneMarkedIf world.now lane (laned self.old) (laned self.new)) }
+        requires spoilt { IsSpoilt self.old }
+        requires there { lane < length self.old.trees }
+        ensures spoilt { IsSpoilt self.new }
+        ensures trees { OnOk result (self.new.trees ≡ self.old.trees) }
+        ensures stocks { self.new.stocks ≡ self.old.stocks }
+        ensures level { OnOk result (IsLevel self.new) }
+        ensures listed { OnOk result (IsListed self.new lane) }
+        ensures others { OnOk result (KeepsOtherLanes lane self.old self.new) }
+        ensures marks { IfOk result (IsLaneMarkedIf world.now lane self.old self.new) }
     {
         let anew = self.lanes[lane].list(world)?;
         let offers = self.lanes[lane].asks.asks();
@@ -173,9 +183,9 @@ impl<'s, A: Allocator, B: Allocator + Clone> Lanes<'s, A, B> {
 
     /// Counts anew what can be put of a lane.
     pub(super) fn count_lane(&mut self, lane: usize, cores: &Cores)
-        requires level { IsLevel (laned self.old) }
-        requires there { lane < length (laned self.old).trees }
-        ensures { laned self.new ≡ counted_at cores.now lane (laned self.old) }
+        requires { lane < length self.old.trees }
+        ensures counts { self.new ≡ counted_at cores.now lane self.old }
+        ensures here { slice_index self.new.ready lane ≡ count_by cores.now (listed_at self.old lane) }
     {
         let count = self.lanes[lane].asks.count(cores);
         self.ready.set(lane, count);
@@ -184,9 +194,8 @@ impl<'s, A: Allocator, B: Allocator + Clone> Lanes<'s, A, B> {
     /// Counts anew what can be put of each lane that may offer an ask of a core.
     #[inline(always)]
     fn count_core(&mut self, core: CacheId, cores: &Cores)
-        requires { AreLanesKept (laned self.old) }
-        ensures counts { ChangesCounts (laned self.old) (laned self.new) }
-        ensures each { EachIsCountedOf core cores.now (laned self.old) (laned self.new) }
+        ensures counts { ChangesCounts self.old self.new }
+        ensures each { EachIsCountedOf core cores.now self.old self.new }
     {
         let row = row_of(&self.reached, core);
         count_each(
@@ -202,7 +211,7 @@ impl<'s, A: Allocator, B: Allocator + Clone> Lane<'s, A, B> {
     ghost use Rattle.std.specs.Prelude.{◌≡◌, IfOk, OnOk};
     ghost use Rattle.cursors.specs.Cursors.{remaining};
     ghost use Rattle.scenario.specs.Taking.{offers};
-    ghost use Rattle.lanes.specs.Lanes.{stocked};
+    ghost use Rattle.lanes.specs.inner.Kept.{stocked};
     ghost use Rattle.schedule.specs.Owned.{IsMarkedIf};
 
     /// Lists anew what is offered, and answers whether it was marked. Where that is what was offered before, the marks stay.
@@ -258,7 +267,7 @@ fn count_each<A: Allocator, B: Allocator>(
     requires { length ready.old ≡ length lanes.now }
     ensures long { length ready.new ≡ length ready.old }
     ensures each { (lane : ℕ) → lane < length lanes.now →
-        IsCountedIn cores.now (map (λ l. l.asks) lanes.now) which.now ready.old ready.new lane }
+        IsCountedIn cores.now (listed_in lanes.now) which.now ready.old ready.new lane }
 {
     for number in which {
         let lane = *number as usize;

@@ -7,19 +7,18 @@ use std::alloc::Allocator;
 use world::World;
 
 impl<'s, A: Allocator, B: Allocator> Lanes<'s, A, B> {
-    ghost use Rattle.std.specs.Prelude.{◌≡◌, ◌↔◌, [], IfSome, length, slice_get, true};
+    ghost use Rattle.std.specs.Prelude.{◌≡◌, ◌↔◌, IfSome, length, slice_get, true};
     ghost use Rattle.std.specs.Option.{option_map};
-    ghost use Rattle.scenario.specs.Taking.{offers};
-    ghost use Rattle.schedule.specs.Choices.{choices_of};
-    ghost use Rattle.lanes.specs.Lanes.{AreCurrent, AreLanesKept, laned, whole};
-    ghost use Rattle.lanes.specs.Picks.{IsPicked, choice_of};
+    ghost use Rattle.lanes.specs.Lanes.{AreCurrent, AreDone, AreReadyIn, choices_by};
+    ghost use Rattle.lanes.specs.Picks.{HasPick, choice_of};
 
-    /// How many choices there are: the length of the list that [`choices`](schedule::choices) gives of this rest.
+    /// How many choices there are: the length of the list that [`choices`](schedule::choices) gives of this rest, and 0 where the
+    /// lanes are spoilt.
     pub fn count(&self, world: &World, cores: &Cores) -> u64
-        requires { AreCurrent world.now cores.now self.now }
-        ensures { result ≡ length (choices_of world.now.tables world.now.state cores.now (whole (laned self.now))) }
+        requires { self.now.usable ≡ true → AreReadyIn world.now cores.now self.now }
+        ensures { result ≡ length (choices_by world.now cores.now self.now) }
     {
-        if world.broken() {
+        if !self.usable || world.broken() {
             return 0;
         }
         self.ready.total() + world.enabled_count()
@@ -30,9 +29,9 @@ impl<'s, A: Allocator, B: Allocator> Lanes<'s, A, B> {
     #[inline(always)]
     pub fn pick(&self, world: &World, cores: &Cores, k: u64) -> Option<Pick>
         requires { AreCurrent world.now cores.now self.now }
-        ensures choice { option_map (choice_of (laned self.now)) result
-            ≡ slice_get (choices_of world.now.tables world.now.state cores.now (whole (laned self.now))) k }
-        ensures there { IfSome result (λ pick. IsPicked pick (laned self.now)) }
+        ensures choice { option_map (choice_of self.now) result
+            ≡ slice_get (choices_by world.now cores.now self.now) k }
+        ensures there { IfSome result (HasPick self.now) }
     {
         if world.broken() {
             return None;
@@ -48,11 +47,10 @@ impl<'s, A: Allocator, B: Allocator> Lanes<'s, A, B> {
         Some(Pick::Deliver(step))
     }
 
-    /// Whether nothing is offered.
+    /// Whether nothing is offered. Of lanes that are spoilt it isn't known.
     pub fn is_done(&self) -> bool
-        requires { AreLanesKept (laned self.now) }
-        ensures { (result ≡ true) ↔ (offers (whole (laned self.now)) ≡ []) }
+        ensures { (result ≡ true) ↔ AreDone self.now }
     {
-        self.lengths.total() == 0
+        self.usable && self.lengths.total() == 0
     }
 }

@@ -1,10 +1,10 @@
 //! Opening the lanes of a scenario.
 
-ghost use Rattle.std.specs.Prelude.{◌≡◌, ◌+◌, ◌≤◌, ◌^◌, ◌++◌, ◌∷◌, [], IfOk, OnOk, true, length, map, replicate};
+ghost use Rattle.std.specs.Prelude.{◌≡◌, ◌≤◌, ◌^◌, ◌∷◌, [], IfOk, true, length, map};
 ghost use Rattle.scenario.specs.Alike.{Alike};
-ghost use Rattle.cursors.specs.Cursors.{remaining};
 ghost use Rattle.scenario.specs.Tree.{Both, Cons, Nil, plain, plain_all, trees_of};
 ghost use Rattle.lanes.specs.Fitting.{EachFits, how_many, lane_trees};
+ghost use Rattle.lanes.specs.inner.Kept.{stocks_in, trees_in};
 
 use super::{Lane, Lanes};
 use base::NoMemory;
@@ -39,11 +39,11 @@ impl<'s, A: Allocator, B: Allocator> Lane<'s, A, B> {
 }
 
 impl<'s, A: Allocator, B: Allocator + Clone> Lanes<'s, A, B> {
-    ghost use Rattle.std.specs.Prelude.{◌≡◌, true, IfOk, OnOk};
+    ghost use Rattle.std.specs.Prelude.{◌≡◌, true, IfOk, MatchResult, OnErr, OnOk, length};
     ghost use Rattle.scenario.specs.Alike.{Alike};
     ghost use Rattle.scenario.specs.Tree.{plain};
-    ghost use Rattle.lanes.specs.Fitting.{FitAgain, LanesFit};
-    ghost use Rattle.lanes.specs.Lanes.{AreLeft, AreReadyIn, AreLanesKept, IsLevel, laned, whole};
+    ghost use Rattle.lanes.specs.Fitting.{FitAgain, LanesFit, how_many, lane_trees};
+    ghost use Rattle.lanes.specs.Lanes.{AreOpened, AreReadyIn, IsSpoilt, spoilt, whole};
 
     /// All of a scenario is left. So many cores have the lanes noted that may offer an ask of them, which ought to be those of the
     /// world; any other number costs time alone.
@@ -54,8 +54,7 @@ impl<'s, A: Allocator, B: Allocator + Clone> Lanes<'s, A, B> {
         world: &World,
         cores: &Cores,
     ) -> Result<Lanes<'s, A, B>, NoMemory>
-        ensures left { IfOk result (λ lanes. AreLeft (plain scenario.entry.now) (laned lanes)) }
-        ensures ready { IfOk result (AreReadyIn world.now cores.now) }
+        ensures opened { IfOk result (AreOpened (plain scenario.entry.now) world.now cores.now) }
         ensures fits { IfOk result (λ lanes. LanesFit lanes (plain scenario.entry.now)) }
     {
         let mut lanes = Lanes::unlisted(alloc, scenario, count)?;
@@ -66,7 +65,7 @@ impl<'s, A: Allocator, B: Allocator + Clone> Lanes<'s, A, B> {
     /// All of a scenario is left from now on, whatever was, in a world with so many cores. Where it has as many lanes as there
     /// were, their memory is used again; so they fit in it if they did before. Where it has more or fewer, they are made anew.
     ///
-    /// Where memory is refused, the lanes are of no more use.
+    /// Where memory is refused, the lanes are spoilt.
     pub fn restart(
         &mut self,
         alloc: Global,
@@ -75,36 +74,43 @@ impl<'s, A: Allocator, B: Allocator + Clone> Lanes<'s, A, B> {
         world: &World,
         cores: &Cores,
     ) -> Result<(), NoMemory>
-        ensures left { OnOk result (AreLeft (plain scenario.entry.now) (laned self.new)) }
-        ensures ready { OnOk result (AreReadyIn world.now cores.now self.new) }
+        ensures opened { MatchResult result
+            (λ _. AreOpened (plain scenario.entry.now) world.now cores.now self.new)
+            (λ _. IsSpoilt self.new) }
         ensures fits { FitAgain (plain scenario.entry.now) result self.old self.new }
     {
-        if self.is_level() && restart_each(&mut self.lanes, scenario) {
-            self.list_all(world, cores)?;
-            return Ok(());
+        if self.go_on(scenario) {
+            return self.list_all(world, cores);
         }
         *self = Lanes::unlisted(alloc, scenario, count)?;
-        self.list_all(world, cores)?;
-        Ok(())
+        self.list_all(world, cores)
     }
 
-    /// Whether as much is kept of each lane.
-    fn is_level(&self) -> bool
-        ensures { result ≡ true → IsLevel (laned self.now) }
+    /// All of a scenario is left, if it has as many lanes as there were, but nothing is listed yet; else no more is known of what is left.
+    fn go_on(&mut self, scenario: &'s Scenario<A>) -> bool
+        ensures spoilt { IsSpoilt self.new }
+        ensures rest { result ≡ true → Alike (whole self.new) (plain scenario.entry.now) }
+        ensures many { result ≡ true → length self.old.trees ≡ how_many (lane_trees (plain scenario.entry.now)) }
+        ensures fits { LanesFit self.old (plain scenario.entry.now) → LanesFit self.new (plain scenario.entry.now) }
     {
-        let count = self.lanes.len();
-        count <= MOST_LANES
-            && self.lengths.len() == count
-            && self.ready.len() == count
-            && !self.reached.is_empty()
+        self.usable = false;
+        restart_each(&mut self.lanes, scenario)
     }
 
-    /// Lists what each lane offers, and counts what can be put of it.
+    /// Spoils the lanes: what they are about is of no more use.
+    pub fn spoil(&mut self)
+        ensures { self.new ≡ spoilt self.old }
+    {
+        self.usable = false;
+    }
+
+    /// Lists what each lane offers, and counts what can be put of it. Then the lanes are spoilt no longer.
     fn list_all(&mut self, world: &World, cores: &Cores) -> Result<(), NoMemory>
-        requires { IsLevel (laned self.old) }
-        ensures trees { OnOk result ((laned self.new).trees ≡ (laned self.old).trees) }
-        ensures stocks { (laned self.new).stocks ≡ (laned self.old).stocks }
-        ensures kept { OnOk result (AreLanesKept (laned self.new)) }
+        requires { IsSpoilt self.old }
+        ensures spoilt { OnErr result (IsSpoilt self.new) }
+        ensures usable { OnOk result (self.new.usable ≡ true) }
+        ensures trees { OnOk result (self.new.trees ≡ self.old.trees) }
+        ensures stocks { self.new.stocks ≡ self.old.stocks }
         ensures ready { OnOk result (AreReadyIn world.now cores.now self.new) }
     {
         for lane in 0..self.lanes.len() {
@@ -112,6 +118,7 @@ impl<'s, A: Allocator, B: Allocator + Clone> Lanes<'s, A, B> {
             self.mark_lane(lane, anew, world);
             self.count_lane(lane, cores);
         }
+        self.usable = true;
         Ok(())
     }
 
@@ -121,8 +128,8 @@ impl<'s, A: Allocator, B: Allocator + Clone> Lanes<'s, A, B> {
         scenario: &'s Scenario<A>,
         count: u32,
     ) -> Result<Lanes<'s, A, B>, NoMemory>
-        ensures rest { IfOk result (λ lanes. Alike (whole (laned lanes)) (plain scenario.entry.now)) }
-        ensures level { IfOk result (λ lanes. IsLevel (laned lanes)) }
+        ensures spoilt { IfOk result IsSpoilt }
+        ensures rest { IfOk result (λ lanes. Alike (whole lanes) (plain scenario.entry.now)) }
         ensures fits { IfOk result (λ lanes. LanesFit lanes (plain scenario.entry.now)) }
     {
         let lanes = lanes_of(alloc, scenario)?;
@@ -134,6 +141,7 @@ impl<'s, A: Allocator, B: Allocator + Clone> Lanes<'s, A, B> {
             lengths,
             ready,
             reached,
+            usable: false,
         })
     }
 }
@@ -144,8 +152,8 @@ fn lanes_of<'s, A: Allocator, B: Allocator>(
     scenario: &'s Scenario<A>,
 ) -> Result<Vec<Lane<'s, A, B>>, NoMemory>
     ensures few { IfOk result (λ lanes. length lanes.items ≤ 2 ^ 31) }
-    ensures rest { IfOk result (λ lanes. Alike (Both (trees_of (map (λ lane. remaining lane.rest) lanes.items))) (plain scenario.entry.now)) }
-    ensures fits { IfOk result (λ lanes. EachFits lanes.items (lane_trees (plain scenario.entry.now))) }
+    ensures rest { IfOk result (λ lanes. Alike (Both (trees_of (trees_in lanes.items))) (plain scenario.entry.now)) }
+    ensures fits { IfOk result (λ lanes. EachFits (stocks_in lanes.items) (lane_trees (plain scenario.entry.now))) }
 {
     match scenario {
         Scenario::Both(children) => {
@@ -163,8 +171,8 @@ fn lane_of<'s, A: Allocator, B: Allocator>(
     alloc: Global,
     tree: &'s Scenario<A>,
 ) -> Result<Vec<Lane<'s, A, B>>, NoMemory>
-    ensures rest { IfOk result (λ lanes. map (λ lane. remaining lane.rest) lanes.items ≡ plain tree.entry.now ∷ []) }
-    ensures fits { IfOk result (λ lanes. EachFits lanes.items (Cons (plain tree.entry.now) Nil)) }
+    ensures rest { IfOk result (λ lanes. trees_in lanes.items ≡ plain tree.entry.now ∷ []) }
+    ensures fits { IfOk result (λ lanes. EachFits (stocks_in lanes.items) (Cons (plain tree.entry.now) Nil)) }
 {
     let lane = Lane::unlisted(alloc, tree)?;
     let mut lanes = Vec::new(alloc);
@@ -178,11 +186,11 @@ fn restart_each<'s, A: Allocator, B: Allocator>(
     scenario: &'s Scenario<A>,
 ) -> bool
     ensures count { length lanes.new.items ≡ length lanes.old.items }
-    ensures rest { result ≡ true → Alike (Both (trees_of (map (λ lane. remaining lane.rest) lanes.new.items))) (plain scenario.entry.now) }
+    ensures rest { result ≡ true → Alike (Both (trees_of (trees_in lanes.new.items))) (plain scenario.entry.now) }
     ensures many { result ≡ true → length lanes.old.items ≤ 2 ^ 31 →
         length lanes.old.items ≡ how_many (lane_trees (plain scenario.entry.now)) }
-    ensures fits { EachFits lanes.old.items (lane_trees (plain scenario.entry.now)) →
-        EachFits lanes.new.items (lane_trees (plain scenario.entry.now)) }
+    ensures fits { EachFits (stocks_in lanes.old.items) (lane_trees (plain scenario.entry.now)) →
+        EachFits (stocks_in lanes.new.items) (lane_trees (plain scenario.entry.now)) }
 {
     match scenario {
         Scenario::Both(children) => {
@@ -209,9 +217,9 @@ fn restart_all<'s, A: Allocator, B: Allocator>(
 )
     requires { length lanes.old.items ≡ length trees.now }
     ensures count { length lanes.new.items ≡ length lanes.old.items }
-    ensures rest { map (λ lane. remaining lane.rest) lanes.new.items ≡ map plain trees.entry.now }
-    ensures fits { EachFits lanes.old.items (plain_all trees.entry.now) →
-        EachFits lanes.new.items (plain_all trees.entry.now) }
+    ensures rest { trees_in lanes.new.items ≡ map plain trees.entry.now }
+    ensures fits { EachFits (stocks_in lanes.old.items) (plain_all trees.entry.now) →
+        EachFits (stocks_in lanes.new.items) (plain_all trees.entry.now) }
 {
     for (number, tree) in trees.iter().enumerate() {
         lanes[number].rest.restart(tree);
@@ -223,8 +231,8 @@ fn lanes_of_each<'s, A: Allocator, B: Allocator>(
     alloc: Global,
     trees: &'s [Scenario<A>],
 ) -> Result<Vec<Lane<'s, A, B>>, NoMemory>
-    ensures rest { IfOk result (λ lanes. map (λ lane. remaining lane.rest) lanes.items ≡ map plain trees.entry.now) }
-    ensures fits { IfOk result (λ lanes. EachFits lanes.items (plain_all trees.entry.now)) }
+    ensures rest { IfOk result (λ lanes. trees_in lanes.items ≡ map plain trees.entry.now) }
+    ensures fits { IfOk result (λ lanes. EachFits (stocks_in lanes.items) (plain_all trees.entry.now)) }
 {
     let mut lanes = Vec::with_capacity(alloc, trees.len())?;
     for tree in trees {

@@ -1,10 +1,9 @@
 //! Marking the asks of lanes again.
 
-ghost use Rattle.std.specs.Prelude.{◌≡◌, ◌<◌, ℕ, Some, true, length, map, slice_index_or};
-ghost use Rattle.cursors.specs.Cursors.{remaining};
-ghost use Rattle.lanes.specs.Lanes.{stocked};
+ghost use Rattle.std.specs.Prelude.{◌≡◌, ◌<◌, ℕ, Some, true, length, slice_index_or};
 ghost use Rattle.schedule.specs.Listed.{nothing_listed};
 ghost use Rattle.lanes.specs.inner.Changes.{IsMarkedIn};
+ghost use Rattle.lanes.specs.inner.Kept.{listed_in, stocks_in, trees_in};
 
 use super::changing::row_of;
 use super::{Lane, Lanes};
@@ -16,7 +15,6 @@ use world::World;
 
 impl<'s, A: Allocator, B: Allocator + Clone> Lanes<'s, A, B> {
     ghost use Rattle.std.specs.Prelude.{◌≡◌, ◌<◌, false, true, length};
-    ghost use Rattle.lanes.specs.Lanes.{AreLanesKept, laned};
     ghost use Rattle.lanes.specs.inner.Changes.{ChangesMarks, EachIsMarkedOf, IsLaneMarked, MarksAgain, marked_in};
 
     /// Marks again what a step about a block changed, of which it is told what it came to, but for a lane that is marked already, if
@@ -29,10 +27,9 @@ impl<'s, A: Allocator, B: Allocator + Clone> Lanes<'s, A, B> {
         block: BlockId,
         world: &World,
     ) -> bool
-        requires { AreLanesKept (laned self.old) }
-        ensures same { ChangesMarks (laned self.old) (laned self.new) }
-        ensures left { result ≡ false → laned self.new ≡ laned self.old }
-        ensures marked { MarksAgain world.now.tables made.now block done (laned self.old) (laned self.new) }
+        ensures same { ChangesMarks self.old self.new }
+        ensures left { result ≡ false → self.new ≡ self.old }
+        ensures marked { MarksAgain world.now.tables made.now block done self.old self.new }
     {
         let Some(acted) = made.acted else {
             return false;
@@ -55,9 +52,9 @@ impl<'s, A: Allocator, B: Allocator + Clone> Lanes<'s, A, B> {
 
     /// Marks anew all that a lane offers, if it isn't marked already.
     pub(super) fn mark_lane(&mut self, lane: usize, is_marked: bool, world: &World)
-        requires there { lane < length (laned self.old).trees }
-        requires marked { is_marked ≡ true → IsLaneMarked world.now (laned self.old) lane }
-        ensures { laned self.new ≡ marked_in world.now.tables world.now.state lane (laned self.old) }
+        requires there { lane < length self.old.trees }
+        requires marked { is_marked ≡ true → IsLaneMarked world.now self.old lane }
+        ensures { self.new ≡ marked_in world.now.tables world.now.state lane self.old }
     {
         if is_marked {
             return;
@@ -68,9 +65,8 @@ impl<'s, A: Allocator, B: Allocator + Clone> Lanes<'s, A, B> {
     /// Marks anew the offers of a core about a block, of which these are held, but for a lane that is marked already, if there is one.
     #[inline(always)]
     fn mark_core(&mut self, done: Option<usize>, core: CacheId, block: BlockId, held: HeldAsks)
-        requires { AreLanesKept (laned self.old) }
-        ensures same { ChangesMarks (laned self.old) (laned self.new) }
-        ensures each { EachIsMarkedOf core held block done (laned self.old) (laned self.new) }
+        ensures same { ChangesMarks self.old self.new }
+        ensures each { EachIsMarkedOf core held block done self.old self.new }
     {
         let row = row_of(&self.reached, core);
         mark_each(
@@ -96,12 +92,12 @@ fn mark_each<A: Allocator, B: Allocator>(
     which: &[u32],
 )
     ensures count { length lanes.new.items ≡ length lanes.old.items }
-    ensures trees { map (λ l. remaining l.rest) lanes.new.items ≡ map (λ l. remaining l.rest) lanes.old.items }
-    ensures stocks { map (λ l. stocked l.rest) lanes.new.items ≡ map (λ l. stocked l.rest) lanes.old.items }
+    ensures trees { trees_in lanes.new.items ≡ trees_in lanes.old.items }
+    ensures stocks { stocks_in lanes.new.items ≡ stocks_in lanes.old.items }
     ensures each { (lane : ℕ) → lane < length lanes.old.items →
         IsMarkedIn held core block which.now done
-        (slice_index_or (map (λ l. l.asks) lanes.old.items) lane nothing_listed)
-        (slice_index_or (map (λ l. l.asks) lanes.new.items) lane nothing_listed) lane }
+        (slice_index_or (listed_in lanes.old.items) lane nothing_listed)
+        (slice_index_or (listed_in lanes.new.items) lane nothing_listed) lane }
 {
     for number in which {
         let lane = *number as usize;

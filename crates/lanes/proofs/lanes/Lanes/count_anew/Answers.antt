@@ -1,14 +1,13 @@
 use Rattle.std.proofs.Common.{◌<◌, ℕ, IfSome, Option, length, subst, arith}
 use Rattle.std.proofs.lemmas.Grind.{common_steps}
-use Rattle.lanes.specs.Lanes.{laned}
 use Rattle.lanes.proofs.Counting.{counted-already}
 use Rattle.lanes.proofs.lanes.Lanes.count_anew.Goals as goal
 
 pub returns-then-is_reached-clause-each : goal.returns-then-is_reached-clause-each
 returns-then-is_reached-clause-each g c lane low =
     let by = c.is_reached.ensures c.if-is_reached.true in
-    let there = subst (λ (o : Option ℕ). IfSome o (λ l. l < length (laned c.args.self.now).trees)) c.in-Some.is c.requires.there in
-    counted-already c.args.cores.now c.in-Some.lane lane c.args.anew (laned c.args.self.now) c.in-Some.is
+    let there = subst (λ (o : Option ℕ). IfSome o (λ l. l < length c.args.self.now.trees)) c.in-Some.is c.requires.there in
+    counted-already c.args.cores.now c.in-Some.lane lane c.args.anew c.args.self.now c.in-Some.is
     (c.requires.counted by.0 c.in-Some.lane by.1 there by.2)
 
 pub returns-in_default-clause-counts : goal.returns-in_default-clause-counts
@@ -17,20 +16,14 @@ returns-in_default-clause-counts g c = grind (arith, common_steps)
 pub returns-in_default-clause-each : goal.returns-in_default-clause-each
 returns-in_default-clause-each g c = grind (arith, common_steps)
 
-pub is_reached-requires-clause-kept : goal.is_reached-requires-clause-kept
-is_reached-requires-clause-kept g c = grind (arith, common_steps)
-
-pub is_reached-requires-clause-there : goal.is_reached-requires-clause-there
-is_reached-requires-clause-there g c = grind (arith, common_steps)
+pub is_reached-requires : goal.is_reached-requires
+is_reached-requires g c = grind (arith, common_steps)
 
 pub returns-then-is_reached-clause-counts : goal.returns-then-is_reached-clause-counts
 returns-then-is_reached-clause-counts g c = grind (arith, common_steps)
 
-pub count_lane-requires-clause-level : goal.count_lane-requires-clause-level
-count_lane-requires-clause-level g c = grind (arith, common_steps)
-
-pub count_lane-requires-clause-there : goal.count_lane-requires-clause-there
-count_lane-requires-clause-there g c = grind (arith, common_steps)
+pub count_lane-requires : goal.count_lane-requires
+count_lane-requires g c = grind (arith, common_steps)
 
 pub returns-clause-counts : goal.returns-clause-counts
 returns-clause-counts g c = grind (arith, common_steps)

@@ -16,6 +16,3 @@ returns-in_default-clause-each g c = grind (arith, common_steps)
 
 pub cache_of-requires : goal.cache_of-requires
 cache_of-requires g c = grind (arith, common_steps)
-
-pub count_core-requires : goal.count_core-requires
-count_core-requires g c = grind (arith, common_steps)

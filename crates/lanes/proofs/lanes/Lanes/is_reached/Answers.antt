@@ -6,9 +6,9 @@ use Rattle.lanes.proofs.lanes.Lanes.is_reached.Goals as goal
 
 pub returns-in-Some : goal.returns-in-Some
 returns-in-Some g c done =
-    let some = c.requires.kept.level.rows in
-    let many = length-map c.args.self.now.reached.items (λ of. of.items) in
+    let some = c.self.invariant.level.rows in
+    let many = length-map c.self.inside.reached.items (λ of. of.items) in
     let row = c.row_of-row.ensures in
-    let there : c.row_of-row.result < length c.args.self.now.reached.items = grind arith in
-    let which = row-items c.args.self.now.reached.items c.row_of-row.result c.in-Some.core.0 c.index.result.now there c.index.ensures row in
-    (c.in-Some.core, c.in-Some.ensures.some, subst (λ ws. Contains ws c.args.lane) which (c.has.ensures done))
+    let there : c.row_of-row.result < length c.self.inside.reached.items = grind arith in
+    let which = row-items c.self.inside.reached.items c.row_of-row.result c.in-Some.core.0 c.index.result.now there c.index.ensures row in
+    rw (← c.self.view_is) (c.in-Some.core, c.in-Some.ensures.some, subst (λ ws. Contains ws c.args.lane) which (c.has.ensures done))

@@ -6,24 +6,21 @@ use Rattle.lanes.specs.Fitting.{lane_trees}
 use Rattle.lanes.proofs.Fitting.{fits-same}
 use Rattle.lanes.proofs.lanes.Lanes.open.Goals as goal
 
-pub returns-clause-left : goal.returns-clause-left
-returns-clause-left g c = record {
-  alike = subst (λ ts. Alike (Both (trees_of ts)) (plain c.args.scenario.now)) (sym c.in_ok-list_all.ensures.trees) c.in_ok-lanes.ensures.rest;
-  kept = c.in_ok-list_all.ensures.kept;
+pub returns-clause-opened : goal.returns-clause-opened
+returns-clause-opened g c = record {
+  left = record {
+    usable = c.in_ok-list_all.ensures.usable;
+    alike = subst (λ ts. Alike (Both (trees_of ts)) (plain c.args.scenario.now)) (sym c.in_ok-list_all.ensures.trees) c.in_ok-lanes.ensures.rest;
+  };
+  ready = c.in_ok-list_all.ensures.ready;
 }
 
-pub returns-in_err-lanes-clause-left : goal.returns-in_err-lanes-clause-left
-returns-in_err-lanes-clause-left g c = grind (arith, common_steps)
-
-pub returns-in_err-lanes-clause-ready : goal.returns-in_err-lanes-clause-ready
-returns-in_err-lanes-clause-ready g c = grind (arith, common_steps)
-
-pub returns-clause-ready : goal.returns-clause-ready
-returns-clause-ready g c = grind (arith, common_steps)
+pub returns-in_err-lanes-clause-opened : goal.returns-in_err-lanes-clause-opened
+returns-in_err-lanes-clause-opened g c = grind (arith, common_steps)
 
 pub returns-clause-fits : goal.returns-clause-fits
 returns-clause-fits g c =
-    fits-same c.in_ok-lanes.lanes.lanes.items c.list_all.new.self.lanes.items (lane_trees (plain c.args.scenario.now)) c.list_all.ensures.stocks
+    fits-same c.in_ok-lanes.lanes.stocks c.list_all.new.self.stocks (lane_trees (plain c.args.scenario.now)) c.list_all.ensures.stocks
     c.in_ok-lanes.ensures.fits
 
 pub returns-in_err-lanes-clause-fits : goal.returns-in_err-lanes-clause-fits

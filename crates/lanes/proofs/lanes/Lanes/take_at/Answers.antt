@@ -1,138 +1,155 @@
-use Rattle.std.proofs.Common.{◌<◌, ◌+◌, ap, get_or, length, refl, set, subst, sym, take, arith}
-use Rattle.std.proofs.lemmas.Grind.{common_steps}
+use Rattle.std.proofs.Common.{◌∙◌, ◌<◌, ◌+◌, ap, get_or, length, refl, subst, sym, take, true, false}
 use Rattle.std.specs.List.{sum}
 use Rattle.std.specs.Vec.{with_item}
-use Rattle.rows.specs.Counts.{Finds}
 use Rattle.scenario.specs.Alike.{Alike}
 use Rattle.cursors.specs.Cursors.{remaining}
 use Rattle.cursors.specs.Repeats.{Repeats}
 use Rattle.scenario.specs.Taking.{left, offers}
-use Rattle.lanes.specs.declared.lanes.Lane.{Lane}
-use Rattle.lanes.specs.declared.lanes.Lanes.{Lanes}
-use Rattle.lanes.specs.Lanes.{laned, listed_at}
+use Rattle.lanes.specs.declared.lanes.Lanes.TheInside.{Inside}
+use Rattle.lanes.specs.Lanes.{Laned, listed_at, offers_at}
+use Rattle.lanes.specs.inner.Kept.{laned}
 use Rattle.schedule.specs.Listed.{Listed, nothing_listed}
 use Rattle.schedule.specs.Owned.{IsMarkedIf}
 use Rattle.lanes.specs.Fitting.{lane_trees}
 use Rattle.lanes.proofs.Fitting.{fits-same, fits-set}
-use Rattle.lanes.proofs.Kept.{lane-finds, lane-tree}
-use Rattle.lanes.proofs.Listing.{Steps, found-offered, lane-low, lane-steps, takes-again, takes-from}
+use Rattle.lanes.proofs.Kept.{AreLanesKept, kept-inside, lane-finds, lane-tree, level-said, listed-said}
+use Rattle.lanes.proofs.Listing.{Steps, Took, found-offered, lane-low, lane-steps, others-said, takes-again, takes-from}
 use Rattle.lanes.proofs.lanes.Lanes.take_at.Given as given
 use Rattle.lanes.proofs.lanes.Lanes.take_at.Goals as goal
-use Rattle.lanes.proofs.lanes.Lanes.take_at.Goals.{Start}
-
--- the offer that is taken, by its number
-finds : (g : given.Over) (c : Start g) →
-    Finds c.args.self.now.lengths (sum (take c.args.lane c.args.self.now.lengths) + c.args.place) c.args.lane c.args.place
-finds g c = lane-finds (laned c.args.self.now) c.args.lane c.args.place c.requires.kept c.requires.there c.requires.offered
+use Rattle.lanes.proofs.lanes.Lanes.take_at.Goals.{In_ok-anew, Then-repeats}
 
 pub pass_on-requires : goal.pass_on-requires
 pass_on-requires g c =
+    let lane = c.args.lane in
+    let kept = kept-inside c.self.inside c.args.self.now c.self.invariant c.self.view_is c.requires.usable in
+    let there = subst (λ (l : Laned). lane < length l.trees) (sym c.self.view_is) c.requires.there in
+    let offered = subst (λ (l : Laned). c.args.place < length (offers_at l lane)) (sym c.self.view_is) c.requires.offered in
     subst (λ t. c.args.place < length (offers t))
-    (sym (lane-tree c.args.self.now.lanes.items c.args.lane c.index_mut.result.now (lane-low c.args.self.now c.args.lane c.requires.there)
-    c.index_mut.ensures.value))
-    (found-offered c.args.lane (sum (take c.args.lane c.args.self.now.lengths) + c.args.place) c.args.place (laned c.args.self.now) c.requires.kept
-    (finds g (goal.at.pass_on-requires g c).Start))
+    (sym (lane-tree c.self.inside.lanes.items lane c.index_mut.result.now (lane-low c.self.inside lane there) c.index_mut.ensures.value))
+    (found-offered lane (sum (take lane c.self.inside.lengths) + c.args.place) c.args.place (laned c.self.inside) kept
+    (lane-finds (laned c.self.inside) lane c.args.place kept there offered))
 
--- the lane that the offer was taken from, before it is listed, and the lanes with it
-abbrev taken : (g : given.Over) → goal.In_ok-anew g → Lane g.row.A.Denot g.row.B.Denot
-taken g c = record { rest = c.pass_on.new.self; asks = c.index_mut.result.now.asks }
+-- ---- a lane that offers the same again, which isn't listed
 
-abbrev mid : (g : given.Over) → goal.In_ok-anew g → Lanes g.row.A.Denot g.row.B.Denot
-mid g c = record {
-  lanes = with_item c.args.self.now.lanes c.args.lane (taken g c);
-  lengths = c.args.self.now.lengths;
-  ready = c.args.self.now.ready;
-  reached = c.args.self.now.reached;
-}
-
--- another tree is left of that lane, and nothing else has changed
-steps : (g : given.Over) (c : goal.In_ok-anew g) → Steps c.args.lane (remaining c.pass_on.new.self) (laned c.args.self.now) (laned (mid g c))
-steps g c =
-    lane-steps c.args.self.now (mid g c) c.args.lane c.index_mut.result.now (taken g c) c.index_mut.ensures.value refl refl refl refl refl
-
--- the same of a lane that offers the same again, which isn't listed
-abbrev again : (g : given.Over) → goal.Then-repeats g → Lanes g.row.A.Denot g.row.B.Denot
+abbrev again : (g : given.Over) → Then-repeats g → Inside g.row.A.Denot g.row.B.Denot
 again g c = record {
-  lanes = with_item c.args.self.now.lanes c.args.lane (record { rest = c.pass_on.new.self; asks = c.index_mut.result.now.asks });
-  lengths = c.args.self.now.lengths;
-  ready = c.args.self.now.ready;
-  reached = c.args.self.now.reached;
+  lanes = with_item c.self.inside.lanes c.args.lane (record { rest = c.pass_on.new.self; asks = c.index_mut.result.now.asks });
+  lengths = c.self.inside.lengths;
+  ready = c.self.inside.ready;
+  reached = c.self.inside.reached;
+  usable = true;
 }
 
-again-steps : (g : given.Over) (c : goal.Then-repeats g) → Steps c.args.lane (remaining c.pass_on.new.self) (laned c.args.self.now) (laned (again g c))
+again-steps : (g : given.Over) (c : Then-repeats g) → Steps c.args.lane (remaining c.pass_on.new.self) (laned c.self.inside) (laned (again g c))
 again-steps g c =
-    lane-steps c.args.self.now (again g c) c.args.lane c.index_mut.result.now (record { rest = c.pass_on.new.self; asks = c.index_mut.result.now.asks })
+    lane-steps c.self.inside (again g c) c.args.lane c.index_mut.result.now (record { rest = c.pass_on.new.self; asks = c.index_mut.result.now.asks })
     c.index_mut.ensures.value refl refl refl refl refl
+
+took-again : (g : given.Over) (c : Then-repeats g) →
+    Took c.args.lane (sum (take c.args.lane c.self.inside.lengths) + c.args.place) (laned c.self.inside) (laned (again g c))
+took-again g c =
+    let lane = c.args.lane in
+    let kept = kept-inside c.self.inside c.args.self.now c.self.invariant c.self.view_is c.requires.usable in
+    let there = subst (λ (l : Laned). lane < length l.trees) (sym c.self.view_is) c.requires.there in
+    let offered = subst (λ (l : Laned). c.args.place < length (offers_at l lane)) (sym c.self.view_is) c.requires.offered in
+    let tree = lane-tree c.self.inside.lanes.items lane c.index_mut.result.now (lane-low c.self.inside lane there) c.index_mut.ensures.value in
+    takes-again lane (sum (take lane c.self.inside.lengths) + c.args.place) c.args.place (remaining c.pass_on.new.self) (laned c.self.inside)
+    (laned (again g c)) kept (lane-finds (laned c.self.inside) lane c.args.place kept there offered)
+    (subst (λ t. Alike (remaining c.pass_on.new.self) (left t c.args.place)) tree c.in_ok-repeats.ensures.passes.ok)
+    (subst Repeats tree (c.in_ok-repeats.ensures.repeats c.if-repeats.true)) (again-steps g c)
+
+pub invariant_of-self-then-repeats : goal.invariant_of-self-then-repeats
+invariant_of-self-then-repeats g c =
+    let kept = (took-again g (goal.at.invariant_of-self-then-repeats g c).Then-repeats).kept in
+    record { level = kept.level; listed = λ usable. kept.listed }
 
 pub returns-then-repeats-clause-takes : goal.returns-then-repeats-clause-takes
 returns-then-repeats-clause-takes g c =
-    let lane = c.args.lane in
-    let there = lane-low c.args.self.now lane c.requires.there in
-    takes-again lane (sum (take lane c.args.self.now.lengths) + c.args.place) c.args.place (remaining c.pass_on.new.self) (laned c.args.self.now)
-    (laned (again g c)) c.requires.kept (finds g (goal.at.returns-then-repeats-clause-takes g c).Start)
-    (subst (λ t. Alike (remaining c.pass_on.new.self) (left t c.args.place))
-    (lane-tree c.args.self.now.lanes.items lane c.index_mut.result.now there c.index_mut.ensures.value) c.in_ok-repeats.ensures.passes.ok)
-    (subst Repeats (lane-tree c.args.self.now.lanes.items lane c.index_mut.result.now there c.index_mut.ensures.value)
-    (c.in_ok-repeats.ensures.repeats c.if-repeats.true))
-    (again-steps g c)
+    rw (← c.self.view_is) (took-again g (goal.at.returns-then-repeats-clause-takes g c).Then-repeats).takes
 
 pub returns-then-repeats-clause-marks : goal.returns-then-repeats-clause-marks
-returns-then-repeats-clause-marks g c = ap (λ ls. get_or ls c.args.lane nothing_listed) (again-steps g c).listed
+returns-then-repeats-clause-marks g c =
+    rw (← c.self.view_is)
+    (ap (λ ls. get_or ls c.args.lane nothing_listed) (again-steps g (goal.at.returns-then-repeats-clause-marks g c).Then-repeats).listed)
+
+-- ---- a lane that is listed anew
+
+-- the lanes before that, while they are spoilt
+abbrev mid : (g : given.Over) → In_ok-anew g → Inside g.row.A.Denot g.row.B.Denot
+mid g c = record {
+  lanes = with_item c.self.inside.lanes c.args.lane (record { rest = c.pass_on.new.self; asks = c.index_mut.result.now.asks });
+  lengths = c.self.inside.lengths;
+  ready = c.self.inside.ready;
+  reached = c.self.inside.reached;
+  usable = false;
+}
+
+-- another tree is left of that lane, and nothing else has changed
+steps : (g : given.Over) (c : In_ok-anew g) → Steps c.args.lane (remaining c.pass_on.new.self) (laned c.self.inside) (laned (mid g c))
+steps g c =
+    lane-steps c.self.inside (mid g c) c.args.lane c.index_mut.result.now (record { rest = c.pass_on.new.self; asks = c.index_mut.result.now.asks })
+    c.index_mut.ensures.value refl refl refl refl refl
+
+-- they are spoilt no longer
+took : (g : given.Over) (c : In_ok-anew g) →
+    Took c.args.lane (sum (take c.args.lane c.self.inside.lengths) + c.args.place) (laned c.self.inside) (record c.list.new.self { usable = true })
+took g c =
+    let lane = c.args.lane in
+    let kept = kept-inside c.self.inside c.args.self.now c.self.invariant c.self.view_is c.requires.usable in
+    let there = subst (λ (l : Laned). lane < length l.trees) (sym c.self.view_is) c.requires.there in
+    let offered = subst (λ (l : Laned). c.args.place < length (offers_at l lane)) (sym c.self.view_is) c.requires.offered in
+    let tree = lane-tree c.self.inside.lanes.items lane c.index_mut.result.now (lane-low c.self.inside lane there) c.index_mut.ensures.value in
+    takes-from lane (sum (take lane c.self.inside.lengths) + c.args.place) c.args.place (remaining c.pass_on.new.self) (laned c.self.inside)
+    (laned (mid g c)) (record c.list.new.self { usable = true }) kept (lane-finds (laned c.self.inside) lane c.args.place kept there offered)
+    (subst (λ t. Alike (remaining c.pass_on.new.self) (left t c.args.place)) tree c.in_ok-repeats.ensures.passes.ok)
+    (steps g c) c.in_ok-anew.ensures.trees (level-said c.list.new.self true c.in_ok-anew.ensures.level)
+    (listed-said c.list.new.self true lane c.in_ok-anew.ensures.listed)
+    (others-said lane (laned (mid g c)) c.list.new.self true c.in_ok-anew.ensures.others)
+
+pub invariant_of-self-2 : goal.invariant_of-self-2
+invariant_of-self-2 g c =
+    let kept = subst (λ (l : Laned). AreLanesKept (record l { usable = true })) (sym c.self-2.view_is)
+    (took g (goal.at.invariant_of-self-2 g c).In_ok-anew).kept in
+    record { level = kept.level; listed = λ usable. kept.listed }
 
 pub returns-clause-takes : goal.returns-clause-takes
 returns-clause-takes g c =
-    let lane = c.args.lane in
-    takes-from lane (sum (take lane c.args.self.now.lengths) + c.args.place) c.args.place (remaining c.pass_on.new.self) (laned c.args.self.now)
-    (laned (mid g c)) (laned c.list.new.self) c.requires.kept (finds g (goal.at.returns-clause-takes g c).Start)
-    (subst (λ t. Alike (remaining c.pass_on.new.self) (left t c.args.place))
-    (lane-tree c.args.self.now.lanes.items lane c.index_mut.result.now (lane-low c.args.self.now lane c.requires.there) c.index_mut.ensures.value)
-    c.in_ok-repeats.ensures.passes.ok)
-    (steps g c) c.in_ok-anew.ensures.trees c.in_ok-anew.ensures.level c.in_ok-anew.ensures.listed c.in_ok-anew.ensures.others
+    rw (← c.self.view_is)
+    (subst (λ (l : Laned). Took c.args.lane (sum (take c.args.lane c.self.inside.lengths) + c.args.place) (laned c.self.inside) (record l { usable = true }))
+    (sym c.self-2.view_is) (took g (goal.at.returns-clause-takes g c).In_ok-anew)).takes
 
 pub returns-clause-marks : goal.returns-clause-marks
 returns-clause-marks g c =
-    subst (λ (l : Listed). IsMarkedIf c.args.world.now.tables c.args.world.now.state c.in_ok-anew.anew l (listed_at (laned c.list.new.self) c.args.lane))
-    (ap (λ ls. get_or ls c.args.lane nothing_listed) (steps g c).listed) c.in_ok-anew.ensures.marks
+    rw (← c.self.view_is)
+    (subst (λ (l : Laned). IsMarkedIf c.args.world.now.tables c.args.world.now.state c.in_ok-anew.anew (listed_at (laned c.self.inside) c.args.lane)
+    (listed_at l c.args.lane)) (sym c.self-2.view_is)
+    (subst (λ (l : Listed). IsMarkedIf c.args.world.now.tables c.args.world.now.state c.in_ok-anew.anew l (listed_at c.list.new.self c.args.lane))
+    (ap (λ ls. get_or ls c.args.lane nothing_listed) (steps g (goal.at.returns-clause-marks g c).In_ok-anew).listed) c.in_ok-anew.ensures.marks))
+
+-- ---- what fits still does
 
 pub returns-in_err-repeats-clause-fits : goal.returns-in_err-repeats-clause-fits
-returns-in_err-repeats-clause-fits g c tree h =
-    fits-set c.args.self.now.lanes.items (lane_trees tree) c.args.lane c.index_mut.result.now
-    (record { rest = c.pass_on.new.self; asks = c.index_mut.result.now.asks }) c.index_mut.ensures.value c.pass_on.ensures.passes.small.fits h
+returns-in_err-repeats-clause-fits g c =
+    rw (← c.self.view_is)
+    (λ tree h. fits-set c.self.inside.lanes.items (lane_trees tree) c.args.lane c.index_mut.result.now
+    (record { rest = c.pass_on.new.self; asks = c.index_mut.result.now.asks }) c.index_mut.ensures.value c.pass_on.ensures.passes.small.fits h)
 
 pub returns-then-repeats-clause-fits : goal.returns-then-repeats-clause-fits
-returns-then-repeats-clause-fits g c tree h =
-    fits-set c.args.self.now.lanes.items (lane_trees tree) c.args.lane c.index_mut.result.now
-    (record { rest = c.pass_on.new.self; asks = c.index_mut.result.now.asks }) c.index_mut.ensures.value c.pass_on.ensures.passes.small.fits h
+returns-then-repeats-clause-fits g c =
+    rw (← c.self.view_is)
+    (λ tree h. fits-set c.self.inside.lanes.items (lane_trees tree) c.args.lane c.index_mut.result.now
+    (record { rest = c.pass_on.new.self; asks = c.index_mut.result.now.asks }) c.index_mut.ensures.value c.pass_on.ensures.passes.small.fits h)
 
 pub returns-in_err-anew-clause-fits : goal.returns-in_err-anew-clause-fits
-returns-in_err-anew-clause-fits g c tree h =
-    let passed : Lane g.row.A.Denot g.row.B.Denot = record { rest = c.pass_on.new.self; asks = c.index_mut.result.now.asks } in
-    fits-same (set c.args.self.now.lanes.items c.args.lane passed) c.list.new.self.lanes.items (lane_trees tree) c.list.ensures.stocks
-    (fits-set c.args.self.now.lanes.items (lane_trees tree) c.args.lane c.index_mut.result.now passed c.index_mut.ensures.value c.pass_on.ensures.passes.small.fits h)
+returns-in_err-anew-clause-fits g c =
+    rw (← c.self.view_is)
+    (λ tree h. fits-same _ c.list.new.self.stocks (lane_trees tree) c.list.ensures.stocks
+    (fits-set c.self.inside.lanes.items (lane_trees tree) c.args.lane c.index_mut.result.now
+    (record { rest = c.pass_on.new.self; asks = c.index_mut.result.now.asks }) c.index_mut.ensures.value c.pass_on.ensures.passes.small.fits h))
 
 pub returns-clause-fits : goal.returns-clause-fits
-returns-clause-fits g c tree h =
-    let passed : Lane g.row.A.Denot g.row.B.Denot = record { rest = c.pass_on.new.self; asks = c.index_mut.result.now.asks } in
-    fits-same (set c.args.self.now.lanes.items c.args.lane passed) c.list.new.self.lanes.items (lane_trees tree) c.list.ensures.stocks
-    (fits-set c.args.self.now.lanes.items (lane_trees tree) c.args.lane c.index_mut.result.now passed c.index_mut.ensures.value c.pass_on.ensures.passes.small.fits h)
-
-pub index_mut-requires : goal.index_mut-requires
-index_mut-requires g c = grind (arith, common_steps)
-
-pub returns-in_err-repeats-clause-takes : goal.returns-in_err-repeats-clause-takes
-returns-in_err-repeats-clause-takes g c = grind (arith, common_steps)
-
-pub returns-in_err-repeats-clause-marks : goal.returns-in_err-repeats-clause-marks
-returns-in_err-repeats-clause-marks g c = grind (arith, common_steps)
-
-pub list-requires-clause-level : goal.list-requires-clause-level
-list-requires-clause-level g c = grind (arith, common_steps)
-
-pub list-requires-clause-there : goal.list-requires-clause-there
-list-requires-clause-there g c = grind (arith, common_steps)
-
-pub returns-in_err-anew-clause-takes : goal.returns-in_err-anew-clause-takes
-returns-in_err-anew-clause-takes g c = grind (arith, common_steps)
-
-pub returns-in_err-anew-clause-marks : goal.returns-in_err-anew-clause-marks
-returns-in_err-anew-clause-marks g c = grind (arith, common_steps)
+returns-clause-fits g c =
+    rw (← c.self.view_is)
+    (λ tree h. fits-same _ (laned c.self-2.inside).stocks (lane_trees tree) (ap (λ (l : Laned). l.stocks) c.self-2.view_is ∙ c.list.ensures.stocks)
+    (fits-set c.self.inside.lanes.items (lane_trees tree) c.args.lane c.index_mut.result.now
+    (record { rest = c.pass_on.new.self; asks = c.index_mut.result.now.asks }) c.index_mut.ensures.value c.pass_on.ensures.passes.small.fits h))

@@ -5,17 +5,11 @@ use Rattle.lanes.proofs.lanes.Lanes.unlisted.Goals as goal
 pub returns-in_err-lanes-clause-rest : goal.returns-in_err-lanes-clause-rest
 returns-in_err-lanes-clause-rest g c = grind (arith, common_steps)
 
-pub returns-in_err-lanes-clause-level : goal.returns-in_err-lanes-clause-level
-returns-in_err-lanes-clause-level g c = grind (arith, common_steps)
-
 pub overflow_cast-len : goal.overflow_cast-len
 overflow_cast-len g c = grind (arith, common_steps)
 
 pub returns-in_err-lengths-clause-rest : goal.returns-in_err-lengths-clause-rest
 returns-in_err-lengths-clause-rest g c = grind (arith, common_steps)
-
-pub returns-in_err-lengths-clause-level : goal.returns-in_err-lengths-clause-level
-returns-in_err-lengths-clause-level g c = grind (arith, common_steps)
 
 pub overflow_cast-len-2 : goal.overflow_cast-len-2
 overflow_cast-len-2 g c = grind (arith, common_steps)
@@ -23,23 +17,14 @@ overflow_cast-len-2 g c = grind (arith, common_steps)
 pub returns-in_err-ready-clause-rest : goal.returns-in_err-ready-clause-rest
 returns-in_err-ready-clause-rest g c = grind (arith, common_steps)
 
-pub returns-in_err-ready-clause-level : goal.returns-in_err-ready-clause-level
-returns-in_err-ready-clause-level g c = grind (arith, common_steps)
-
 pub overflow_add-count : goal.overflow_add-count
 overflow_add-count g c = grind (arith, common_steps)
 
 pub returns-in_err-reached-clause-rest : goal.returns-in_err-reached-clause-rest
 returns-in_err-reached-clause-rest g c = grind (arith, common_steps)
 
-pub returns-in_err-reached-clause-level : goal.returns-in_err-reached-clause-level
-returns-in_err-reached-clause-level g c = grind (arith, common_steps)
-
 pub returns-clause-rest : goal.returns-clause-rest
 returns-clause-rest g c = grind (arith, common_steps)
-
-pub returns-clause-level : goal.returns-clause-level
-returns-clause-level g c = grind (arith, common_steps)
 
 pub returns-in_err-lanes-clause-fits : goal.returns-in_err-lanes-clause-fits
 returns-in_err-lanes-clause-fits g c = grind (arith, common_steps)

@@ -3,7 +3,7 @@ use Rattle.std.proofs.lemmas.Grind.{common_steps}
 use Rattle.std.proofs.lemmas.Option.{slice_get_within}
 use Rattle.std.specs.List.{Contains}
 use Rattle.base.specs.declared.ids.CacheId.{CacheId}
-use Rattle.lanes.specs.Lanes.{lanes_of}
+use Rattle.lanes.specs.inner.Kept.{lanes_of}
 use Rattle.lanes.proofs.Reached.{grown-vec, now-in-vec, one-more, rows_in}
 use Rattle.lanes.proofs.lanes.changing.reach.Goals as goal
 

@@ -1,7 +1,7 @@
 use Rattle.std.proofs.Common.{◌≡◌, ◌<◌, ℕ, Some, IfSome, length, map, slice_get}
 use Rattle.std.specs.List.{Contains}
 use Rattle.base.specs.declared.step.CoreAsk.{CoreAsk}
-use Rattle.lanes.specs.Lanes.{lanes_of}
+use Rattle.lanes.specs.inner.Kept.{lanes_of}
 use Rattle.lanes.proofs.lanes.changing.reach.Given as goal
 
 abbrev pub invariant-loop-ask : goal.invariant-loop-ask

@@ -7,6 +7,7 @@ use Rattle.scenario.specs.declared.tree.Scenario.{Scenario}
 use Rattle.scenario.specs.declared.tree.Scenario.TheVariants as made
 use Rattle.scenario.proofs.Children.{plain-Both}
 use Rattle.lanes.specs.Fitting.{EachFits, how_many, lane_trees}
+use Rattle.lanes.specs.inner.Kept.{stocks_in}
 use Rattle.lanes.proofs.Fitting.{alone-lanes, few-lanes, fits-many, many-all, many-lanes}
 use Rattle.lanes.proofs.Rows.{alone, same-alike}
 use Rattle.lanes.proofs.lanes.making.lanes_of.Goals as goal
@@ -34,7 +35,7 @@ returns-then-len-gt-MOST_LANES-clause-fits g c =
     let all = many-all c.in-Both.children.items in
     let most : 2 ^ 31 < how_many (plain_all c.in-Both.children.items) = omega (arith, c.if-len-gt-MOST_LANES.true, c.len.ensures, all) in
     let one = ap lane_trees row ∙ many-lanes (plain_all c.in-Both.children.items) most ∙ ap (λ (t : Tree). Cons t Nil) (sym row) in
-    IfOk-weaker c.lane_of.result _ _ (λ lanes h. subst (EachFits lanes.items) (sym one) h) c.lane_of.ensures.fits
+    IfOk-weaker c.lane_of.result _ _ (λ lanes h. subst (EachFits (stocks_in lanes.items)) (sym one) h) c.lane_of.ensures.fits
 
 pub returns-else-len-gt-MOST_LANES-clause-few : goal.returns-else-len-gt-MOST_LANES-clause-few
 returns-else-len-gt-MOST_LANES-clause-few g c =
@@ -59,7 +60,7 @@ returns-else-len-gt-MOST_LANES-clause-fits g c =
     let few : how_many (plain_all c.as_slice.result.now) ≤ 2 ^ 31 =
     omega (arith, all, children, c.if-len-gt-MOST_LANES.false, c.len.ensures) in
     let each = ap lane_trees row ∙ few-lanes (plain_all c.as_slice.result.now) few in
-    IfOk-weaker c.lanes_of_each.result _ _ (λ lanes h. subst (EachFits lanes.items) (sym each) h) c.lanes_of_each.ensures.fits
+    IfOk-weaker c.lanes_of_each.result _ _ (λ lanes h. subst (EachFits (stocks_in lanes.items)) (sym each) h) c.lanes_of_each.ensures.fits
 
 pub returns-in_default : goal.returns-in_default
 returns-in_default g c = record {
@@ -67,5 +68,5 @@ returns-in_default g c = record {
       (λ lanes h. let one = fits-many lanes.items (Cons (plain c.args.scenario.now) Nil) h in omega (arith, one)) c.lane_of-in_default.ensures.fits;
   rest = IfOk-weaker c.lane_of-in_default.result _ _ (λ lanes e. alike-alone (plain c.args.scenario.now) _ e) c.lane_of-in_default.ensures.rest;
   fits = IfOk-weaker c.lane_of-in_default.result _ _
-      (λ lanes h. subst (EachFits lanes.items) (sym (alone-lanes c.args.scenario.now c.in_default.not-Both)) h) c.lane_of-in_default.ensures.fits;
+      (λ lanes h. subst (EachFits (stocks_in lanes.items)) (sym (alone-lanes c.args.scenario.now c.in_default.not-Both)) h) c.lane_of-in_default.ensures.fits;
 }

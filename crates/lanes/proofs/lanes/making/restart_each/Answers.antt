@@ -9,6 +9,7 @@ use Rattle.scenario.specs.declared.tree.Scenario.TheVariants as made
 use Rattle.scenario.proofs.Children.{plain-Both}
 use Rattle.lanes.specs.declared.lanes.Lane.{Lane}
 use Rattle.lanes.specs.Fitting.{EachFits, how_many, lane_trees}
+use Rattle.lanes.specs.inner.Kept.{stocks_in}
 use Rattle.lanes.proofs.Fitting.{alone-lanes, few-lanes, fits-put, fits-row, many-all}
 use Rattle.lanes.proofs.Rows.{alone, same-alike}
 use Rattle.lanes.proofs.lanes.making.restart_each.Goals as goal
@@ -46,9 +47,9 @@ returns-else-len-clause-fits g c h =
     let row = row-is c.args.scenario.now c.in-Both.children ss c.in-Both.is c.as_slice.ensures.value in
     let same = as-many ss c.in-Both.children.items (length c.args.lanes.now.items) c.as_slice.ensures.value
     (omega (arith, c.if-len.false, c.len.ensures, c.len-in-Both.ensures)) in
-    subst (λ (t : Tree). EachFits c.restart_all.new.lanes.items (lane_trees t)) (sym row)
+    subst (λ (t : Tree). EachFits (stocks_in c.restart_all.new.lanes.items) (lane_trees t)) (sym row)
     (fits-row c.args.lanes.now.items c.restart_all.new.lanes.items (plain_all ss) same c.restart_all.ensures.fits
-    (subst (λ (t : Tree). EachFits c.args.lanes.now.items (lane_trees t)) row h))
+    (subst (λ (t : Tree). EachFits (stocks_in c.args.lanes.now.items) (lane_trees t)) row h))
 
 pub returns-else-len-ne1 : goal.returns-else-len-ne1
 returns-else-len-ne1 g c =
@@ -62,7 +63,7 @@ returns-else-len-ne1 g c =
       count = length-set c.args.lanes.now.items 0 _;
       rest = λ done. subst (λ (ts : List Tree). Alike (Both (trees_of ts)) (plain c.args.scenario.now)) (sym trees) (alone (plain c.args.scenario.now));
       many = λ done few. one ∙ sym (ap how_many alone-is);
-      fits = λ h. subst (EachFits (set c.args.lanes.now.items 0 new)) (sym alone-is)
+      fits = λ h. subst (EachFits (stocks_in (set c.args.lanes.now.items 0 new))) (sym alone-is)
           (fits-put c.args.lanes.now.items (c.args.scenario.now ∷ []) 0 c.index_mut.result.now new c.args.scenario.now c.index_mut.ensures.value refl
-          c.restart.ensures.fits (subst (EachFits c.args.lanes.now.items) alone-is h));
+          c.restart.ensures.fits (subst (EachFits (stocks_in c.args.lanes.now.items)) alone-is h));
     }

@@ -1,10 +1,11 @@
--- A scenario as a row of signs, from which it is read back: the code by which the checker tells scenarios apart.
-use Rattle.std.specs.Prelude.{◌≡◌, ℕ, zero, suc, List, [], ◌∷◌, refl}
-use Rattle.std.specs.Coded.{Coded, code_by, coded×, coded_list, coded_ℕ}
+-- Scenarios and stocks of parts as rows of signs, from which they are read back: the codes by which the checker tells lanes apart.
+use Rattle.std.specs.Prelude.{◌≡◌, ℕ, zero, suc, Bool, true, false, List, [], ◌∷◌, refl}
+use Rattle.std.specs.Coded.{Coded, code_by, coded×, coded_list, coded_bool, coded_ℕ}
 use Rattle.std.proofs.Common.{◌∙◌, ap}
 use Rattle.base.specs.declared.step.Ask.{Ask}
 use Rattle.base.specs.declared.step.Ask.TheVariants.{Load, Store, Replace}
 use Rattle.scenario.specs.Tree.{Tree, Trees, One, Seq, Any, Times, Both, Nil, Cons}
+use Rattle.cursors.specs.Stock.{Stock, Empty, With}
 
 -- which sign it is, and the numbers beside it
 abbrev Sign : Type 0
@@ -83,3 +84,32 @@ abbrev pub tree_code : Coded Tree
 tree_code =
     code_by (List Sign) (coded_list (coded× coded_ℕ (coded× coded_ℕ (coded× coded_ℕ coded_ℕ)))) (λ t. signs t []) (λ l. first (read l Nil []))
     (λ t. ap first (read-signs t [] Nil []))
+
+-- the signs of a stock, before those that follow: a part's own row comes before the others, and then a sign that joins them
+abbrev stock_signs : Stock → List Bool → List Bool
+stock_signs Empty more = false ∷ more
+stock_signs (With own others) more = stock_signs own (stock_signs others (true ∷ more))
+
+abbrev joined : List Stock → List Stock
+joined [] = []
+joined (others ∷ []) = []
+joined (others ∷ own ∷ more) = With own others ∷ more
+
+abbrev read_stocks : List Bool → List Stock → List Stock
+read_stocks [] done = done
+read_stocks (false ∷ more) done = read_stocks more (Empty ∷ done)
+read_stocks (true ∷ more) done = read_stocks more (joined done)
+
+abbrev first_stock : List Stock → Stock
+first_stock [] = Empty
+first_stock (s ∷ ss) = s
+
+pub read-stock : (s : Stock) (more : List Bool) (done : List Stock) → read_stocks (stock_signs s more) done ≡ read_stocks more (s ∷ done)
+read-stock Empty more done = refl
+read-stock (With own others) more done =
+    read-stock own (stock_signs others (true ∷ more)) done ∙ read-stock others (true ∷ more) (own ∷ done)
+
+abbrev pub stock_code : Coded Stock
+stock_code =
+    code_by (List Bool) (coded_list coded_bool) (λ s. stock_signs s []) (λ l. first_stock (read_stocks l []))
+    (λ s. ap first_stock (read-stock s [] []))
