@@ -1,12 +1,20 @@
 -- The lanes of each core.
-use Rattle.std.proofs.Common.{◌≡◌, ℕ, ◌+◌, ◌-◌, ◌<◌, inl, inr, min, List, [], length, map}
+use Rattle.std.proofs.Common.{◌≡◌, ℕ, zero, suc, ◌+◌, ◌-◌, ◌<◌, inl, inr, min, List, [], ◌∷◌, length, map}
 use Rattle.std.proofs.Common.{Some, get_or, set, slice_get, sym, ap, ◌∙◌, subst, arith, Vec, Global}
-use Rattle.std.specs.List.{Contains}
+use Rattle.std.specs.List.{Contains, insert}
 use Rattle.std.proofs.lemmas.List.{length-set, length-map, map-set, get_or-map, get_or-set_same, get_or-set_other}
 use Rattle.std.proofs.lemmas.Bool.{cases_eq, cases_lt}
 use Rattle.std.proofs.lemmas.Option.{slice_get-get_or}
 use Rattle.base.specs.declared.step.CoreAsk.{CoreAsk}
 use Rattle.lanes.specs.inner.Kept.{lanes_of, row_of_core}
+
+-- what stands in a list stands there when one more is put in
+pub contains-insert : (xs : List ℕ) (place x y : ℕ) → Contains xs x → Contains (insert xs place y) x
+contains-insert [] place x y h = absurd (omega (arith, h.1))
+contains-insert (z ∷ xs) zero x y (i, low, is) = (suc i, omega (arith, low), is)
+contains-insert (z ∷ xs) (suc place) x y (zero, low, is) = (zero, omega arith, is)
+contains-insert (z ∷ xs) (suc place) x y (suc i, low, is) =
+    let later = contains-insert xs place x y (i, omega (arith, low), is) in (suc later.0, omega (arith, later.1), later.2)
 
 -- a row that got more
 row-set : (rows : List (List ℕ)) (row core : ℕ) (v : List ℕ) → row_of_core (set rows row v) core ≡ row_of_core rows core

@@ -25,7 +25,7 @@ pub struct Lanes<'s, A: Allocator, B: Allocator> {
     // Of each lane how many offers it has, and how many of them can be put.
     lengths: Sums,
     ready: Sums,
-    // For each core the lanes that may offer an ask of it. A lane too many costs a count.
+    // For each core the lanes that may offer an ask of it, in order. A lane too many costs a count.
     reached: Vec<Vec<u32>>,
     // Whether what is kept of each lane is right. Where it isn't, the lanes are spoilt.
     usable: bool,
@@ -49,7 +49,7 @@ impl<'s, A: Allocator, B: Allocator> Model for Lanes<'s, A, B> {
 
 impl<'s, A: Allocator, B: Allocator> Drop for Lanes<'s, A, B> {
     fn drop(self) {
-        // All its parts go in one call.
+        // One call drops all its parts.
         let Lanes {
             lanes: _,
             lengths: _,

@@ -38,7 +38,7 @@ impl<'s, A: Allocator, B: Allocator> Model for Moment<'s, A, B> {
 
 impl<'s, A: Allocator, B: Allocator> Drop for Moment<'s, A, B> {
     fn drop(self) {
-        // All its parts go in one call.
+        // One call drops all its parts.
         let Moment {
             world: _,
             cores: _,

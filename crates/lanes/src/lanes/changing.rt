@@ -317,20 +317,20 @@ fn is_of(core: Option<CacheId>, ask: CoreAsk) -> bool
     }
 }
 
-/// Whether the lane is among these.
+/// Whether the lane is among these, which stand in order.
 fn has(lanes: &Vec<u32>, lane: u32) -> bool
     ensures { result ≡ true → Contains lanes.now.items lane }
 {
-    lanes.contains(&lane)
+    lanes.binary_search(&lane).is_ok()
 }
 
-/// The lane is among these from now on.
+/// The lane is among these from now on, in its order.
 fn add(lanes: &mut Vec<u32>, lane: u32) -> Result<(), NoMemory>
     ensures more { (other : ℕ) → Contains lanes.old.items other → Contains lanes.new.items other }
     ensures ok { OnOk result (Contains lanes.new.items lane) }
 {
-    if !has(lanes, lane) {
-        lanes.push(lane)?;
+    if let Err(place) = lanes.binary_search(&lane) {
+        lanes.insert(place, lane)?;
     }
     Ok(())
 }
