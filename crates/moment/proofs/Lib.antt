@@ -4,6 +4,7 @@ pub mod Pending
 pub mod Effects
 pub mod Apart
 pub mod Counted
+pub mod Behind
 pub mod Tracking
 pub mod Chosen
 pub mod Offered

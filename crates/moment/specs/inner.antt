@@ -1,3 +1,4 @@
 pub mod Holding
+pub mod Going
 pub mod Noting
 pub mod Tracked

@@ -1,9 +1,9 @@
 //! The type of a moment.
 
-use crate::noting::note;
+use crate::going::go_on;
 use base::{NoMemory, Step};
 use cores::Cores;
-use lanes::Lanes;
+use lanes::{Lanes, Pick};
 use machine::Made;
 use scenario::Scenario;
 use std::alloc::{Allocator, Global};
@@ -100,18 +100,24 @@ impl<'s, A: Allocator, B: Allocator + Clone> Moment<'s, A, B> {
         let Some(pick) = self.lanes.pick(&self.world, &self.cores, k) else {
             unreachable!();
         };
-        let step = pick.step();
-        let Ok(made) = self.world.make(step) else {
-            self.lanes.spoil();
-            return Err(NoMemory);
-        };
-        let turned = note(&mut self.cores, step, made.outcome);
-        let (world, cores) = (&self.world, &self.cores);
-        let lanes = &mut self.lanes;
-        let Ok(()) = lanes.follow(alloc, &pick, &made, turned, world, cores) else {
-            return Err(NoMemory);
-        };
-        Ok((step, made))
+        let (world, cores, lanes) = (&mut self.world, &mut self.cores, &mut self.lanes);
+        // A step of each kind is made by code of its own, in which nothing of the other kinds is asked.
+        match pick {
+            Pick::Offer { lane, place, ask } => {
+                go_on(world, cores, lanes, alloc, Pick::Offer { lane, place, ask })
+            }
+            Pick::Deliver(step) => match step {
+                Step::Request { block, index } => {
+                    let step = Step::Request { block, index };
+                    go_on(world, cores, lanes, alloc, Pick::Deliver(step))
+                }
+                Step::Forward { block, cache } => {
+                    let step = Step::Forward { block, cache };
+                    go_on(world, cores, lanes, alloc, Pick::Deliver(step))
+                }
+                step => go_on(world, cores, lanes, alloc, Pick::Deliver(step)),
+            },
+        }
     }
 }
 

@@ -4,7 +4,9 @@ use Rattle.tables.specs.Tables.{Tables}
 use Rattle.machine.specs.Machine.{State}
 use Rattle.cores.specs.Cores.{Core}
 use Rattle.lanes.specs.Lanes.{AreReady, Laned, whole}
+use Rattle.moment.specs.Moments.{Moment}
 use Rattle.moment.specs.Seen.{Seen}
+use Rattle.world.specs.View.{View}
 use Rattle.moment.specs.declared.moments.Moment.TheInside.{Inside}
 use Rattle.moment.specs.inner.Tracked.{IsTracked}
 
@@ -17,11 +19,19 @@ pub record Holds (tables : Tables) (state : State) (cores : List Core) (lanes : 
 abbrev pub IsSound : {A B : Type 0} → Inside A B → Type 0
 IsSound m = m.lanes.usable ≡ true → Holds m.world.tables m.world.state m.cores m.lanes
 
+-- the moment that is at a world, cores and lanes
+abbrev pub moment_of : View → List Core → Laned → Moment
+moment_of world cores lanes = record { state = world.state; cores = cores; rest = whole lanes }
+
+-- it is seen where the lanes aren't spoilt
+abbrev pub seen_of : View → List Core → Laned → Seen
+seen_of world cores lanes = record {
+  shape = world.shape;
+  tables = world.tables;
+  opening = world.opening;
+  now = if lanes.usable then Some (moment_of world cores lanes) else None;
+}
+
 -- a moment, as contracts see it
 abbrev pub seen : {A B : Type 0} → Inside A B → Seen
-seen m = record {
-  shape = m.world.shape;
-  tables = m.world.tables;
-  opening = m.world.opening;
-  now = if m.lanes.usable then Some (record { state = m.world.state; cores = m.cores; rest = whole m.lanes }) else None;
-}
+seen m = seen_of m.world m.cores m.lanes
