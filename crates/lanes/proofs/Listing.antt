@@ -1,5 +1,5 @@
 -- What listing a lane anew, and taking an offer from it, keeps of the lanes.
-use Rattle.std.proofs.Common.{◌≡◌, ◌≢◌, ℕ, ◌<◌, ◌^◌, inl, inr, length, map, Option, Some, None, get_or, set, slice_get}
+use Rattle.std.proofs.Common.{◌≡◌, ◌≢◌, ℕ, ◌<◌, ◌^◌, inl, inr, length, map, Option, Some, None, get_or, set, slice_get, true}
 use Rattle.std.proofs.Common.{Bool, List, [], ◌≤◌, refl, sym, ap, ◌∙◌, subst, arith}
 use Rattle.std.specs.List.{Contains}
 use Rattle.std.proofs.lemmas.List.{length-map, length-set, map-set, get_or-set_same, get_or-set_other}
@@ -107,9 +107,8 @@ pub record Took (lane offer : ℕ) (old new : Laned) : Type 0 where
 
 pub takes-from : (lane offer rest : ℕ) (t : Tree) (old mid new : Laned) → AreLanesKept old → Finds old.lengths offer lane rest →
     Alike t (left (tree_of_lane old lane) rest) → Steps lane t old mid → new.trees ≡ mid.trees → IsLevel new → IsListed new lane →
-    KeepsOtherLanes lane mid new →
-    Took lane offer old new
-takes-from lane offer rest t old mid new kept found alike steps trees level listed others =
+    KeepsOtherLanes lane mid new → new.usable ≡ true → Took lane offer old new
+takes-from lane offer rest t old mid new kept found alike steps trees level listed others usable =
     let finds : Finds (lengths_of old.trees) offer lane rest = subst (λ ns. Finds ns offer lane rest) (lengths-are old kept) found in
     let low : lane < length old.trees = (let h = found-within old.lengths lane rest found.within in let m = kept.level.lengths in omega (arith, h, m)) in
     let many : length new.trees ≡ length old.trees = ap length trees ∙ ap length steps.trees ∙ length-set old.trees lane t in
@@ -117,6 +116,7 @@ takes-from lane offer rest t old mid new kept found alike steps trees level list
     λ other ne h. others.listed other ne (listed-still lane t old mid steps other ne h) in
     record {
       takes = record {
+        usable = usable;
         there = low;
         rest = subst (λ ts. Alike (Both (trees_of ts)) (left (whole old) offer)) (sym (trees ∙ steps.trees))
             (taken-there old.trees offer lane rest t finds alike);
@@ -175,12 +175,13 @@ steps-level lane t old mid level s =
     }
 
 pub takes-again : (lane offer rest : ℕ) (t : Tree) (old mid : Laned) → AreLanesKept old → Finds old.lengths offer lane rest →
-    Alike t (left (tree_of_lane old lane) rest) → Repeats (tree_of_lane old lane) → Steps lane t old mid → Took lane offer old mid
-takes-again lane offer rest t old mid kept found alike repeats steps =
+    Alike t (left (tree_of_lane old lane) rest) → Repeats (tree_of_lane old lane) → Steps lane t old mid →
+    mid.usable ≡ true → Took lane offer old mid
+takes-again lane offer rest t old mid kept found alike repeats steps usable =
     let low : lane < length old.trees = (let h = found-within old.lengths lane rest found.within in let m = kept.level.lengths in omega (arith, h, m)) in
     takes-from lane offer rest t old mid mid kept found alike steps refl (steps-level lane t old mid kept.level steps)
     (repeated-listed lane t old mid kept low steps (ap seen-offers (alike []) ∙ repeats rest (found-offered lane offer rest old kept found)))
-    (record { count = refl; ready = refl; same = λ other ne. refl; listed = λ other ne h. h })
+    (record { count = refl; ready = refl; same = λ other ne. refl; listed = λ other ne h. h }) usable
 
 -- ---- the same of lanes as they are kept
 

@@ -27,10 +27,14 @@ pub record HasPick (l : Laned) (pick : Pick) : Type 0 where
   pub usable : l.usable ≡ true
   pub picked : IsPicked pick l
 
+-- what is left is what is left behind the choice of a pick
+abbrev pub AreLeftBehind : Pick → Laned → Laned → Type 0
+AreLeftBehind pick old new = AreLeft (rest_after (choice_of old pick) (whole old)) new
+
 -- a pick was followed: what is left is what is left behind its choice. Where the marks and counts were right at the moment before its step,
 -- they are right at that behind it; but if no core may have turned, this is promised where none has
 pub record FollowsPick (pick : Pick) (made : Made) (turned : Bool) (world : View) (cores : List Core) (old new : Laned) : Type 0 where
-  pub left : AreLeft (rest_after (choice_of old pick) (whole old)) new
+  pub left : AreLeftBehind pick old new
   pub ready : (before : State) (cores_before : List Core) → AreReady world.tables before cores_before old →
       FollowsStep world.tables (chosen_step (choice_of old pick)) made before world.state cores_before cores →
       (turned ≡ false → AreAsFree cores_before cores) → AreReadyIn world cores new

@@ -1,5 +1,5 @@
 -- What changing a lane leaves of the lanes.
-use Rattle.std.specs.Prelude.{◌≡◌, ◌≢◌, ◌<◌, ◌+◌, ◌⊎◌, ℕ, Bool, false, List, Option, Some, IfSome, length, take, slice_index, slice_index_or, slice_set}
+use Rattle.std.specs.Prelude.{◌≡◌, ◌≢◌, ◌<◌, ◌+◌, ◌⊎◌, ℕ, Bool, false, List, Option, Some, IfSome, length, take, slice_index, slice_index_or, slice_set, true}
 use Rattle.std.specs.List.{sum}
 use Rattle.base.specs.Steps.{block_of}
 use Rattle.base.specs.declared.step.Step.{Step}
@@ -15,11 +15,8 @@ use Rattle.blocks.specs.declared.block.asking.HeldAsks.{HeldAsks}
 use Rattle.cores.specs.Cores.{Core, is_free}
 use Rattle.scenario.specs.Alike.{Alike}
 use Rattle.scenario.specs.Taking.{left}
-use Rattle.schedule.specs.Choices.{rest_after}
-use Rattle.lanes.specs.Lanes.{Laned, AreReady, FollowsStep, listed_at, offers_at, puttable, whole}
+use Rattle.lanes.specs.Lanes.{Laned, AreReady, AreReadyIn, FollowsStep, listed_at, offers_at, puttable, whole}
 use Rattle.lanes.specs.inner.Kept.{AreListed, IsListed, lanes_of}
-use Rattle.lanes.specs.Picks.{choice_of}
-use Rattle.lanes.specs.declared.picking.Pick.{Pick}
 use Rattle.schedule.specs.Listed.{IsMarked, Listed, nothing_listed}
 use Rattle.schedule.specs.Marks.{all_marked, marked_by, offers_by}
 use Rattle.schedule.specs.Owned.{IsMarkedIf}
@@ -33,8 +30,15 @@ pub record KeepsOtherLanes (lane : ℕ) (old new : Laned) : Type 0 where
   pub same : (other : ℕ) → other ≢ lane → listed_at new other ≡ listed_at old other
   pub listed : (other : ℕ) → other ≢ lane → IsListed old other → IsListed new other
 
+-- all lanes were listed, marked and counted, and are spoilt no longer
+pub record ListsAll (world : View) (cores : List Core) (old new : Laned) : Type 0 where
+  pub usable : new.usable ≡ true
+  pub trees : new.trees ≡ old.trees
+  pub ready : AreReadyIn world cores new
+
 -- an offer of all of them was taken from one lane
 pub record TakesFrom (lane offer : ℕ) (old new : Laned) : Type 0 where
+  pub usable : new.usable ≡ true
   pub there : lane < length old.trees
   pub rest : Alike (whole new) (left (whole old) offer)
   pub others : KeepsOtherLanes lane old new
@@ -42,10 +46,6 @@ pub record TakesFrom (lane offer : ℕ) (old new : Laned) : Type 0 where
 -- the offer at a place of a lane was taken, which has as many before it as the lanes before it have, and its place
 abbrev pub TakesPlace : ℕ → ℕ → Laned → Laned → Type 0
 TakesPlace lane place old new = TakesFrom lane (sum (take lane old.lengths) + place) old new
-
--- what is left is what is left behind the choice of a pick
-abbrev pub IsLeftBehind : Pick → Laned → Laned → Type 0
-IsLeftBehind pick old new = Alike (whole new) (rest_after (choice_of old pick) (whole old))
 
 -- the lane is there, if there is one
 abbrev pub IsLaneThere : Laned → Option ℕ → Type 0

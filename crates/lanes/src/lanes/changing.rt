@@ -19,14 +19,14 @@ use std::alloc::Allocator;
 use world::World;
 
 impl<'s, A: Allocator, B: Allocator + Clone> Lanes<'s, A, B> {
-    ghost use Rattle.std.specs.Prelude.{◌≡◌, ◌<◌, MatchResult, OnErr, OnOk, IfOk, length, slice_index, true};
+    ghost use Rattle.std.specs.Prelude.{◌≡◌, ◌<◌, MatchResult, OnOk, IfOk, length, slice_index, true};
     ghost use Rattle.scenario.specs.Tree.{Tree};
     ghost use Rattle.lanes.specs.Fitting.{LanesFit};
     ghost use Rattle.lanes.specs.Lanes.{IsSpoilt, listed_at, offers_at};
-    ghost use Rattle.lanes.specs.Picks.{FollowsPick, HasPick};
+    ghost use Rattle.lanes.specs.Picks.{AreLeftBehind, FollowsPick, HasPick};
     ghost use Rattle.lanes.specs.inner.Kept.{IsLevel, IsListed};
     ghost use Rattle.lanes.specs.inner.Changes.{AreCountedAt, ChangesCounts, EachIsCountedAt, EachIsCountedIf, EachIsCountedOf, IsLaneMarkedIf};
-    ghost use Rattle.lanes.specs.inner.Changes.{IsLaneThere, IsLeftBehind, IsMarkedAnew, IsReachedAt, KeepsOtherLanes, TakesPlace};
+    ghost use Rattle.lanes.specs.inner.Changes.{IsLaneThere, IsMarkedAnew, IsReachedAt, KeepsOtherLanes, TakesPlace};
     ghost use Rattle.lanes.specs.inner.Changes.{WereReadyBut, count_by, counted_at};
 
     /// Follows a pick that was made, by a step that came to this: an offer is taken, what is made anew for it is `alloc`'s, and the
@@ -69,9 +69,7 @@ impl<'s, A: Allocator, B: Allocator + Clone> Lanes<'s, A, B> {
         world: &World,
     ) -> Result<Option<usize>, NoMemory>
         requires { HasPick self.old pick.now }
-        ensures spoilt { OnErr result (IsSpoilt self.new) }
-        ensures usable { OnOk result (self.new.usable ≡ true) }
-        ensures rest { OnOk result (IsLeftBehind pick.now self.old self.new) }
+        ensures left { MatchResult result (λ _. AreLeftBehind pick.now self.old self.new) (λ _. IsSpoilt self.new) }
         ensures there { IfOk result (IsLaneThere self.new) }
         ensures marked { IfOk result (IsMarkedAnew world.now self.new) }
         ensures were { IfOk result (WereReadyBut world.now self.old self.new) }
@@ -143,9 +141,7 @@ impl<'s, A: Allocator, B: Allocator + Clone> Lanes<'s, A, B> {
         requires usable { self.old.usable ≡ true }
         requires there { lane < length self.old.trees }
         requires offered { place < length (offers_at self.old lane) }
-        ensures spoilt { OnErr result (IsSpoilt self.new) }
-        ensures usable { OnOk result (self.new.usable ≡ true) }
-        ensures takes { OnOk result (TakesPlace lane place self.old self.new) }
+        ensures takes { MatchResult result (λ _. TakesPlace lane place self.old self.new) (λ _. IsSpoilt self.new) }
         ensures marks { IfOk result (IsLaneMarkedIf world.now lane self.old self.new) }
         ensures fits { (tree : Tree) → LanesFit self.old tree → LanesFit self.new tree }
     {

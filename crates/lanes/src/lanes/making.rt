@@ -39,11 +39,12 @@ impl<'s, A: Allocator, B: Allocator> Lane<'s, A, B> {
 }
 
 impl<'s, A: Allocator, B: Allocator + Clone> Lanes<'s, A, B> {
-    ghost use Rattle.std.specs.Prelude.{◌≡◌, true, IfOk, MatchResult, OnErr, OnOk, length};
+    ghost use Rattle.std.specs.Prelude.{◌≡◌, true, IfOk, MatchResult, length};
     ghost use Rattle.scenario.specs.Alike.{Alike};
     ghost use Rattle.scenario.specs.Tree.{plain};
     ghost use Rattle.lanes.specs.Fitting.{FitAgain, LanesFit, how_many, lane_trees};
-    ghost use Rattle.lanes.specs.Lanes.{AreOpened, AreReadyIn, IsSpoilt, spoilt, whole};
+    ghost use Rattle.lanes.specs.Lanes.{AreOpened, IsSpoilt, spoilt, whole};
+    ghost use Rattle.lanes.specs.inner.Changes.{ListsAll};
 
     /// All of a scenario is left. So many cores have the lanes noted that may offer an ask of them, which ought to be those of the
     /// world; any other number costs time alone.
@@ -107,11 +108,10 @@ impl<'s, A: Allocator, B: Allocator + Clone> Lanes<'s, A, B> {
     /// Lists what each lane offers, and counts what can be put of it. Then the lanes are spoilt no longer.
     fn list_all(&mut self, world: &World, cores: &Cores) -> Result<(), NoMemory>
         requires { IsSpoilt self.old }
-        ensures spoilt { OnErr result (IsSpoilt self.new) }
-        ensures usable { OnOk result (self.new.usable ≡ true) }
-        ensures trees { OnOk result (self.new.trees ≡ self.old.trees) }
+        ensures lists { MatchResult result
+            (λ _. ListsAll world.now cores.now self.old self.new)
+            (λ _. IsSpoilt self.new) }
         ensures stocks { self.new.stocks ≡ self.old.stocks }
-        ensures ready { OnOk result (AreReadyIn world.now cores.now self.new) }
     {
         for lane in 0..self.lanes.len() {
             let anew = self.list(lane, world)?;

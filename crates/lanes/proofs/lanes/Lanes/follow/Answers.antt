@@ -17,7 +17,7 @@ pub returns-clause-made : goal.returns-clause-made
 returns-clause-made g c = record {
   left = record {
     usable = ap (λ (l : Laned). l.usable) c.count_anew.ensures.counts.same ∙ ap (λ (l : Laned). l.usable) c.count_at.ensures.counts.same
-        ∙ c.mark_again-marked.ensures.same.usable ∙ c.in_ok-anew.ensures.usable;
+        ∙ c.mark_again-marked.ensures.same.usable ∙ c.in_ok-anew.ensures.left.usable;
     alike = grind (arith, common_steps);
   };
   ready = λ before cb ready follows free.
@@ -28,7 +28,7 @@ returns-clause-made g c = record {
       let marked = c.mark_again-marked.new.self in
       let anew = c.in_ok-anew.anew in
       let listed : AreListed taken =
-      subst AreListed c.self.view_is (c.self.invariant.listed (ap (λ (l : Laned). l.usable) c.self.view_is ∙ c.in_ok-anew.ensures.usable)) in
+      subst AreListed c.self.view_is (c.self.invariant.listed (ap (λ (l : Laned). l.usable) c.self.view_is ∙ c.in_ok-anew.ensures.left.usable)) in
       let at = c.changed_at-at.result in
       let here : c.block.result.0 ≡ block_of step = c.block.ensures ∙ ap block_of (c.step.ensures c.args.self.now) in
       where-sound world.tables world.state cores c.count_anew.new.self (λ sn.

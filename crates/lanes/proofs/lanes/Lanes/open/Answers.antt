@@ -9,10 +9,10 @@ use Rattle.lanes.proofs.lanes.Lanes.open.Goals as goal
 pub returns-clause-opened : goal.returns-clause-opened
 returns-clause-opened g c = record {
   left = record {
-    usable = c.in_ok-list_all.ensures.usable;
-    alike = subst (λ ts. Alike (Both (trees_of ts)) (plain c.args.scenario.now)) (sym c.in_ok-list_all.ensures.trees) c.in_ok-lanes.ensures.rest;
+    usable = c.in_ok-list_all.ensures.lists.usable;
+    alike = subst (λ ts. Alike (Both (trees_of ts)) (plain c.args.scenario.now)) (sym c.in_ok-list_all.ensures.lists.trees) c.in_ok-lanes.ensures.rest;
   };
-  ready = c.in_ok-list_all.ensures.ready;
+  ready = c.in_ok-list_all.ensures.lists.ready;
 }
 
 pub returns-in_err-lanes-clause-opened : goal.returns-in_err-lanes-clause-opened

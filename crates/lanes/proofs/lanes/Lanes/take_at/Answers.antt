@@ -56,7 +56,7 @@ took-again g c =
     takes-again lane (sum (take lane c.self.inside.lengths) + c.args.place) c.args.place (remaining c.pass_on.new.self) (laned c.self.inside)
     (laned (again g c)) kept (lane-finds (laned c.self.inside) lane c.args.place kept there offered)
     (subst (λ t. Alike (remaining c.pass_on.new.self) (left t c.args.place)) tree c.in_ok-repeats.ensures.passes.ok)
-    (subst Repeats tree (c.in_ok-repeats.ensures.repeats c.if-repeats.true)) (again-steps g c)
+    (subst Repeats tree (c.in_ok-repeats.ensures.repeats c.if-repeats.true)) (again-steps g c) refl
 
 pub invariant_of-self-then-repeats : goal.invariant_of-self-then-repeats
 invariant_of-self-then-repeats g c =
@@ -104,7 +104,7 @@ took g c =
     (subst (λ t. Alike (remaining c.pass_on.new.self) (left t c.args.place)) tree c.in_ok-repeats.ensures.passes.ok)
     (steps g c) c.in_ok-anew.ensures.trees (level-said c.list.new.self true c.in_ok-anew.ensures.level)
     (listed-said c.list.new.self true lane c.in_ok-anew.ensures.listed)
-    (others-said lane (laned (mid g c)) c.list.new.self true c.in_ok-anew.ensures.others)
+    (others-said lane (laned (mid g c)) c.list.new.self true c.in_ok-anew.ensures.others) refl
 
 pub invariant_of-self-2 : goal.invariant_of-self-2
 invariant_of-self-2 g c =
