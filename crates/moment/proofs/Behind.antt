@@ -1,6 +1,5 @@
 -- What a moment is behind a pick.
-use Rattle.std.proofs.Common.{◌≡◌, ℕ, List, Result, Ok, Err, MatchResult, true, false, None, Some, slice_get, refl, sym, ap, ◌∙◌, subst}
-use Rattle.std.specs.Prelude.{if◌then◌else◌}
+use Rattle.std.proofs.Common.{◌≡◌, ℕ, List, Result, Ok, Err, MatchResult, true, false, None, Some, slice_get, refl, sym, ◌∙◌}
 use Rattle.base.specs.declared.step.Step.{Step}
 use Rattle.machine.specs.declared.made.Made.{Made}
 use Rattle.cores.specs.Cores.{Core}

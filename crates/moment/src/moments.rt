@@ -3,7 +3,7 @@
 use crate::going::go_on;
 use base::{NoMemory, Step};
 use cores::Cores;
-use lanes::{Lanes, Pick};
+use lanes::Lanes;
 use machine::Made;
 use scenario::Scenario;
 use std::alloc::{Allocator, Global};
@@ -101,23 +101,7 @@ impl<'s, A: Allocator, B: Allocator + Clone> Moment<'s, A, B> {
             unreachable!();
         };
         let (world, cores, lanes) = (&mut self.world, &mut self.cores, &mut self.lanes);
-        // A step of each kind is made by code of its own, in which nothing of the other kinds is asked.
-        match pick {
-            Pick::Offer { lane, place, ask } => {
-                go_on(world, cores, lanes, alloc, Pick::Offer { lane, place, ask })
-            }
-            Pick::Deliver(step) => match step {
-                Step::Request { block, index } => {
-                    let step = Step::Request { block, index };
-                    go_on(world, cores, lanes, alloc, Pick::Deliver(step))
-                }
-                Step::Forward { block, cache } => {
-                    let step = Step::Forward { block, cache };
-                    go_on(world, cores, lanes, alloc, Pick::Deliver(step))
-                }
-                step => go_on(world, cores, lanes, alloc, Pick::Deliver(step)),
-            },
-        }
+        go_on(world, cores, lanes, alloc, pick)
     }
 }
 
