@@ -5,6 +5,7 @@ pub mod Acting
 pub mod Opening
 pub mod Copying
 pub mod Writers
+pub mod Access
 pub mod Sends
 pub mod Going
 pub mod TestedMarks

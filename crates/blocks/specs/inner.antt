@@ -1,5 +1,6 @@
 pub mod Named
 pub mod Lined
+pub mod Access
 pub mod Tested
 pub mod Linking
 pub mod Asked

@@ -81,13 +81,12 @@ impl Block {
     {
         let home = Home::open(alloc, caches, value)?;
         let wires = Wires::open(alloc, caches)?;
-        let access = Access::open(alloc, caches)?;
         Ok(Block {
             lines: Sparse::open(alloc, caches),
             home,
             wires,
             latest: value,
-            access,
+            access: Access::none(),
         })
     }
 
@@ -100,9 +99,9 @@ impl Block {
     {
         self.lines.clear();
         self.home.reset(value);
-        self.wires.clear();
         self.latest = value;
-        self.access.clear();
+        self.access = Access::none();
+        self.wires.clear();
     }
 
     /// The line of a cache, if the cache is there.
@@ -144,13 +143,12 @@ impl TryClone for Block {
         let lines = self.lines.try_clone(alloc)?;
         let home = self.home.try_clone(alloc)?;
         let wires = self.wires.try_clone(alloc)?;
-        let access = self.access.try_clone(alloc)?;
         Ok(Block {
             lines,
             home,
             wires,
             latest: self.latest,
-            access,
+            access: self.access,
         })
     }
 }

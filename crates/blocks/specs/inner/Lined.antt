@@ -1,5 +1,5 @@
 -- A block as the program holds it.
-use Rattle.std.specs.Prelude.{◌≡◌, List, Option, Bool, is_some, length, map}
+use Rattle.std.specs.Prelude.{◌≡◌, ℕ, ◌<◌, ◌^◌, List, Option, Bool, count_by, is_some, length, map}
 use Rattle.control.specs.declared.line.Line.{Line}
 use Rattle.control.specs.LineEffect.{is_reader, is_writer}
 use Rattle.machine.specs.Block.{BlockState, IsBlockAmong}
@@ -14,18 +14,12 @@ lines_of items = map line_or items
 abbrev pub kept_lines : List (Option Line) → List Bool
 kept_lines items = map is_some items
 
--- which caches may read, and which may write
-abbrev pub readers_in : List Line → List Bool
-readers_in lines = map (λ line. is_reader line.state) lines
-
-abbrev pub writers_in : List Line → List Bool
-writers_in lines = map (λ line. is_writer line.state) lines
-
--- a block holds together: it is whole, its lines are kept where they are named, and the flags are those of its lines
-pub record IsHeld (b : BlockState) (items : List (Option Line)) (reading writing : List Bool) : Type 0 where
+-- a block holds together: it is whole, its lines are kept where they are named, and so many of them may read and write
+pub record IsHeld (b : BlockState) (items : List (Option Line)) (reading writing : ℕ) : Type 0 where
   pub lines : b.lines ≡ lines_of items
   pub among : IsBlockAmong (length b.lines) b
+  pub few : length b.lines < 2 ^ 32
   pub home : HomeNames (kept_lines items) b.home
   pub traffic : TrafficNames (kept_lines items) b.traffic
-  pub readers : reading ≡ readers_in b.lines
-  pub writers : writing ≡ writers_in b.lines
+  pub readers : reading ≡ count_by (λ line. is_reader line.state) b.lines
+  pub writers : writing ≡ count_by (λ line. is_writer line.state) b.lines

@@ -17,7 +17,6 @@ use base::{CacheId, CoreAsk, NoMemory, Outcome, Step};
 use cache_table::{CacheActions, CacheState};
 use control::{
     Line, LineCompletion, LineInput, home_perform, home_reserve, line_perform, line_reserve,
-    may_read, may_write,
 };
 use machine::{Acted, Actor, Decision, Made, Origin};
 use network::Wires;
@@ -119,8 +118,7 @@ impl Block {
                     actions,
                     &mut self.wires,
                 );
-                self.access.readers.set(cache.0, may_read(next));
-                self.access.writers.set(cache.0, may_write(next));
+                self.access.follow(line.state, next);
                 self.latest = latest_value(done, self.latest);
                 completion_outcome(cache, origin, done)
             }

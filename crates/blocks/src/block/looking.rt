@@ -5,6 +5,7 @@ ghost use Rattle.machine.specs.Block.{opened_block};
 ghost use Rattle.blocks.specs.Marking.{ask_stalls};
 
 use crate::block::Block;
+use crate::block::access::least_writer;
 use crate::block::acting::completion_outcome;
 use crate::block::deciding::{is_idle_ask, opened_line};
 use crate::block::testing::stalls_line;
@@ -41,17 +42,17 @@ impl Block {
     pub fn readers(&self) -> u32
         ensures { result ≡ count_by (λ line. is_reader line.state) self.now.state.lines }
     {
-        self.access.readers.ones()
+        self.access.readers
     }
 
     /// The least cache that may write the block.
     pub fn writer(&self) -> Option<CacheId>
         ensures { result ≡ writer_in self.now.state.lines }
     {
-        match self.access.writers.next_from(0) {
-            Some(number) => Some(CacheId(number)),
-            None => None,
+        if self.writers() == 0 {
+            return None;
         }
+        least_writer(&self.lines)
     }
 
     /// The least cache that may write the block, where more than one may read it.
@@ -77,7 +78,7 @@ impl Block {
     fn writers(&self) -> u32
         ensures { result ≡ count_by (λ line. is_writer line.state) self.now.state.lines }
     {
-        self.access.writers.ones()
+        self.access.writers
     }
 
     /// The controller that a step goes to, if cache and message are there.

@@ -1,4 +1,4 @@
-use Rattle.std.proofs.Common.{◌≡◌, ◌<◌, ◌∙◌, ap, arith, sym, subst, length, set, refl, take}
+use Rattle.std.proofs.Common.{◌≡◌, ◌∙◌, ap, arith, sym, subst, length, refl, take}
 use Rattle.std.proofs.Math.Seq.{take-length}
 use Rattle.std.proofs.lemmas.Grind.{common_steps}
 use Rattle.network.specs.Marks.{Marks}
@@ -12,9 +12,20 @@ use Rattle.machine.specs.Block.{BlockState}
 use Rattle.blocks.specs.View.{BlockView}
 use Rattle.blocks.specs.inner.Lined.{IsHeld, kept_lines, lines_of}
 use Rattle.blocks.specs.inner.Named.{IsKeptIf}
+use Rattle.blocks.proofs.Access.{can-recount}
 use Rattle.blocks.proofs.Acting.{held-at_line, held-at_home}
 use Rattle.blocks.proofs.Performed.{after-state, kept-put, lines-put}
 use Rattle.blocks.proofs.block.Block.carry_out.Goals as goal
+
+pub follow-requires-clause-readers : goal.follow-requires-clause-readers
+follow-requires-clause-readers c =
+    can-recount is_reader (lines_of c.self.inside.lines.items) c.in-AtLine.cache.0 c.in-AtLine.line c.in-AtLine.next c.self.inside.access.readers
+    c.self.invariant.readers (rw (c.in-AtLine.is, sym c.self.view_is) at c.requires.line) c.self.invariant.few
+
+pub follow-requires-clause-writers : goal.follow-requires-clause-writers
+follow-requires-clause-writers c =
+    can-recount is_writer (lines_of c.self.inside.lines.items) c.in-AtLine.cache.0 c.in-AtLine.line c.in-AtLine.next c.self.inside.access.writers
+    c.self.invariant.writers (rw (c.in-AtLine.is, sym c.self.view_is) at c.requires.line) c.self.invariant.few
 
 pub invariant_of-self : goal.invariant_of-self
 invariant_of-self c =
@@ -27,27 +38,18 @@ invariant_of-self c =
       traffic = c.perform-done.new.wires.traffic;
       latest = c.latest_value-self-inside.result;
     } in
-    let fits : c.in-AtLine.cache.0 < length c.args.self.now.state.lines = (rw c.in-AtLine.is at c.requires.fits).0 in
-    let there : c.in-AtLine.cache.0 < length old.lines = subst (λ (k : BlockView). c.in-AtLine.cache.0 < length k.state.lines) (sym c.self.view_is) fits in
     let named : IsKeptIf c.args.self.now.space.lines (requestor_of c.in-AtLine.input) = (rw c.in-AtLine.is at c.requires.names).0 in
     let requestor : IsKeptIf (kept_lines c.self.inside.lines.items) (requestor_of c.in-AtLine.input) =
     subst (λ (k : BlockView). IsKeptIf k.space.lines (requestor_of c.in-AtLine.input)) (sym c.self.view_is) named in
     let after = line_after c.in-AtLine.input c.in-AtLine.next c.in-AtLine.line in
-    rw (
-      c.set.ensures,
-      c.set-in-AtLine.ensures,
-      c.may_read.ensures,
-      c.may_write.ensures,
-      ← after-state c.in-AtLine.input c.in-AtLine.next c.in-AtLine.line,
-    )
-    (subst (λ is. IsHeld new is (set c.self.inside.access.readers c.in-AtLine.cache.0 (is_reader after.state))
-    (set c.self.inside.access.writers c.in-AtLine.cache.0 (is_writer after.state)))
+    subst (λ is. IsHeld new is c.follow.new.self.readers c.follow.new.self.writers)
     (sym c.perform-done.ensures.items)
-    (held-at_line c.self.inside.lines.items c.in-AtLine.cache c.in-AtLine.line after c.in-AtLine.input c.in-AtLine.actions
-    c.in-AtLine.origin old new c.self.inside.access.readers c.self.inside.access.writers c.self.invariant there requestor
-    (ap lines_of c.perform-done.ensures.items) refl
+    (held-at_line c.self.inside.lines.items c.in-AtLine.cache c.in-AtLine.line after c.in-AtLine.input c.in-AtLine.next c.in-AtLine.actions
+    c.in-AtLine.origin old new c.self.inside.access.readers c.self.inside.access.writers c.follow.new.self.readers c.follow.new.self.writers
+    c.self.invariant (rw (c.in-AtLine.is, sym c.self.view_is) at c.requires.line) requestor (ap lines_of c.perform-done.ensures.items) refl
     (c.perform-done.ensures.sent.traffic ∙ ap
-    (all_sent (line_sends c.in-AtLine.cache c.in-AtLine.input c.in-AtLine.actions c.in-AtLine.line)) c.take.ensures.traffic)))
+    (all_sent (line_sends c.in-AtLine.cache c.in-AtLine.input c.in-AtLine.actions c.in-AtLine.line)) c.take.ensures.traffic)
+    (after-state c.in-AtLine.input c.in-AtLine.next c.in-AtLine.line) c.follow.ensures.readers c.follow.ensures.writers)
 
 pub invariant_of-self-in-AtHome : goal.invariant_of-self-in-AtHome
 invariant_of-self-in-AtHome c =

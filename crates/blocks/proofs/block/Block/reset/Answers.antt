@@ -1,38 +1,28 @@
-use Rattle.std.proofs.Common.{◌≡◌, ◌∙◌, None, ap, false, length, refl, replicate, sym}
+use Rattle.std.proofs.Common.{◌≡◌, ◌∙◌, None, ap, length, refl, replicate, sym}
 use Rattle.std.proofs.lemmas.List.{length-map}
 use Rattle.control.specs.Homes.{opened_home}
 use Rattle.network.specs.Traffic.{quiet}
 use Rattle.blocks.specs.inner.Lined.{lines_of}
 use Rattle.blocks.proofs.Opening.{held-opened, lines-opened, none-kept}
 use Rattle.blocks.proofs.block.Block.reset.Goals as goal
-use Rattle.blocks.proofs.block.Block.reset.Goals.{After-clear-3}
+use Rattle.blocks.proofs.block.Block.reset.Goals.{After-clear-2}
 
-count : (c : After-clear-3) → length c.self.inside.lines.items ≡ length (lines_of c.self.inside.lines.items)
+count : (c : After-clear-2) → length c.self.inside.lines.items ≡ length (lines_of c.self.inside.lines.items)
 count c = sym (length-map c.self.inside.lines.items _)
 
-lines : (c : After-clear-3) → c.clear.new.self.items ≡ replicate (length (lines_of c.self.inside.lines.items)) None
+lines : (c : After-clear-2) → c.clear.new.self.items ≡ replicate (length (lines_of c.self.inside.lines.items)) None
 lines c = c.clear.ensures.items ∙ ap (λ n. replicate n None) (count c)
 
-home : (c : After-clear-3) → c.reset.new.self ≡ opened_home (length (lines_of c.self.inside.lines.items)) c.args.value
+home : (c : After-clear-2) → c.reset.new.self ≡ opened_home (length (lines_of c.self.inside.lines.items)) c.args.value
 home c = c.reset.ensures ∙ ap (λ n. opened_home n c.args.value) c.self.invariant.among.home.sharers
 
-traffic : (c : After-clear-3) → c.clear-2.new.self.traffic ≡ quiet (length (lines_of c.self.inside.lines.items))
+traffic : (c : After-clear-2) → c.clear-2.new.self.traffic ≡ quiet (length (lines_of c.self.inside.lines.items))
 traffic c = c.clear-2.ensures.traffic ∙ ap quiet c.self.invariant.among.links
-
-readers : (c : After-clear-3) → c.clear-3.new.self.readers ≡ replicate (length (lines_of c.self.inside.lines.items)) false
-readers c =
-    c.clear-3.ensures.readers
-    ∙ ap (λ n. replicate n false) (ap length c.self.invariant.readers ∙ length-map (lines_of c.self.inside.lines.items) _)
-
-writers : (c : After-clear-3) → c.clear-3.new.self.writers ≡ replicate (length (lines_of c.self.inside.lines.items)) false
-writers c =
-    c.clear-3.ensures.writers
-    ∙ ap (λ n. replicate n false) (ap length c.self.invariant.writers ∙ length-map (lines_of c.self.inside.lines.items) _)
 
 pub invariant_of-self : goal.invariant_of-self
 invariant_of-self c =
-    rw (lines c, home c, traffic c, readers c, writers c, lines-opened (length (lines_of c.self.inside.lines.items)))
-    (held-opened (length (lines_of c.self.inside.lines.items)) c.args.value)
+    rw (lines c, home c, traffic c, c.none-self-inside.ensures, lines-opened (length (lines_of c.self.inside.lines.items)))
+    (held-opened (length (lines_of c.self.inside.lines.items)) c.args.value c.self.invariant.few)
 
 pub returns-clause-state : goal.returns-clause-state
 returns-clause-state c =

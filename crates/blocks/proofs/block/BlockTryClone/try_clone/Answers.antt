@@ -10,7 +10,7 @@ Lines = record { items : List (Option Line); keys : List ℕ }
 pub invariant_of-result : goal.invariant_of-result
 invariant_of-result c =
     let lines = lines-copied c.in_ok-lines.lines.items c.self.inside.lines.items (ap (λ (s : Lines). s.items) c.in_ok-lines.ensures) in
-    rw (lines, c.in_ok-home.ensures, c.in_ok-wires.ensures.traffic, c.in_ok-access.ensures.readers, c.in_ok-access.ensures.writers) c.self.invariant
+    rw (lines, c.in_ok-home.ensures, c.in_ok-wires.ensures.traffic) c.self.invariant
 
 pub returns : goal.returns
 returns c =
