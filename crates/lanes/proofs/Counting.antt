@@ -16,11 +16,10 @@ use Rattle.blocks.specs.declared.block.asking.HeldAsks.{HeldAsks}
 use Rattle.machine.specs.Coherence.{line_at}
 use Rattle.machine.specs.Machine.{State}
 use Rattle.cores.specs.Cores.{Core, is_free}
-use Rattle.scenario.specs.Tree.{Seq, Nil}
-use Rattle.scenario.specs.Taking as taking
+use Rattle.scenario.specs.Tree.{Tree, Seq, Nil}
 use Rattle.schedule.specs.Choices.{can_be_put, offers_from}
-use Rattle.lanes.specs.Lanes.{AreAsFree, AreReady, Laned, listed_at, offers_at, puttable}
-use Rattle.lanes.specs.inner.Kept.{AreListed, IsLevel, IsListed, lanes_of}
+use Rattle.lanes.specs.Lanes.{AreAsFree, AreReady, Laned, Source, listed_at, offers_at, puttable, source_at}
+use Rattle.lanes.specs.inner.Kept.{AreAsOpened, AreListed, IsLevel, IsListed, IsListedAs, lanes_of, tree_of_lane}
 use Rattle.schedule.specs.Listed.{IsMarked, Listed, is_unheld, nothing_listed}
 use Rattle.schedule.specs.Marks.{AreHeldAt, all_marked, is_at, mark_by, marked_by, marks_by, offers_by}
 use Rattle.lanes.specs.inner.Changes.{Agree, AgreeBut, AreCountedAt, AreMarked, ChangesCounts, IsCountedAt, IsCountedIf, IsMarkedIn, KeepsOtherLanes}
@@ -290,6 +289,8 @@ not-among which n lane all each there =
 -- nothing but marks has changed
 pub level-marks : (old new : Laned) → ChangesMarks old new → IsLevel old → IsLevel new
 level-marks old new m level = record {
+  sources = ap (λ (s : Source). length s.trees) m.source ∙ level.sources ∙ sym (ap length m.trees);
+  opened = ap length m.opened ∙ level.opened ∙ sym (ap length m.trees);
   listed = m.long ∙ level.listed ∙ sym (ap length m.trees);
   lengths = ap length m.lengths ∙ level.lengths ∙ sym (ap length m.trees);
   ready = ap length m.ready ∙ level.ready ∙ sym (ap length m.trees);
@@ -297,34 +298,59 @@ level-marks old new m level = record {
   rows = subst (λ n. 1 ≤ n) (sym (ap length m.reached)) level.rows;
 }
 
-pub listed-marks : (old new : Laned) → ChangesMarks old new → AreListed old → AreListed new
-listed-marks old new m listed lane low =
-    let h = listed lane (subst (λ ts. lane < length ts) m.trees low) in
+listed-still : (old new : Laned) (tree : Tree) (lane : ℕ) → ChangesMarks old new → IsListedAs tree old lane → IsListedAs tree new lane
+listed-still old new tree lane m h =
     let same = m.asks lane in
     record {
-      offered = same ∙ h.offered ∙ ap (λ ts. taking.offers (get_or ts lane (Seq Nil))) (sym m.trees);
+      offered = same ∙ h.offered;
       count = ap (λ ns. get_or ns lane 0) m.lengths ∙ h.count ∙ ap length (sym same);
       short = subst (λ xs. length xs < 2 ^ 32) (sym same) h.short;
       reached = λ at ask e. subst (λ rs. Contains (lanes_of rs ask.core.0) lane) (sym m.reached)
           (h.reached at ask (ap (λ xs. slice_get xs at) (sym same) ∙ e));
     }
 
+pub listed-marks : (old new : Laned) → ChangesMarks old new → AreListed old → AreListed new
+listed-marks old new m listed lane low =
+    subst (λ ts. IsListedAs (get_or ts lane (Seq Nil)) new lane) (sym m.trees)
+    (listed-still old new (tree_of_lane old lane) lane m (listed lane (subst (λ ts. lane < length ts) m.trees low)))
+
+pub opened-marks : (old new : Laned) → ChangesMarks old new → AreAsOpened old → AreAsOpened new
+opened-marks old new m opened lane is =
+    subst (λ (s : Source). IsListedAs (get_or s.trees lane (Seq Nil)) new lane) (sym m.source)
+    (listed-still old new (source_at old lane) lane m (opened lane (sym (ap (λ bs. get_or bs lane false) m.opened) ∙ is)))
+
 -- nothing but counts has changed
 pub level-counts : (old new : Laned) → ChangesCounts old new → IsLevel old → IsLevel new
 level-counts old new m level =
     subst IsLevel (sym m.same)
-    (record { listed = level.listed; lengths = level.lengths; ready = m.long ∙ level.ready; few = level.few; rows = level.rows })
+    (record {
+      sources = level.sources;
+      opened = level.opened;
+      listed = level.listed;
+      lengths = level.lengths;
+      ready = m.long ∙ level.ready;
+      few = level.few;
+      rows = level.rows;
+    })
 
 pub listed-counts : (old new : Laned) → ChangesCounts old new → AreListed old → AreListed new
 listed-counts old new m listed =
     subst AreListed (sym m.same)
     (λ lane low. let h = listed lane low in record { offered = h.offered; count = h.count; short = h.short; reached = h.reached })
 
-pub marks-only : (held : HeldAsks) (core : CacheId) (block : BlockId) (which : List ℕ) (done : Option ℕ) (old new : Laned) → new.trees ≡ old.trees →
+pub opened-counts : (old new : Laned) → ChangesCounts old new → AreAsOpened old → AreAsOpened new
+opened-counts old new m opened =
+    subst AreAsOpened (sym m.same)
+    (λ lane is. let h = opened lane is in record { offered = h.offered; count = h.count; short = h.short; reached = h.reached })
+
+pub marks-only : (held : HeldAsks) (core : CacheId) (block : BlockId) (which : List ℕ) (done : Option ℕ) (old new : Laned) →
+    new.source ≡ old.source → new.as_opened ≡ old.as_opened → new.trees ≡ old.trees →
     new.stocks ≡ old.stocks → new.lengths ≡ old.lengths → new.ready ≡ old.ready → new.reached ≡ old.reached → new.usable ≡ old.usable →
     length new.listed ≡ length old.listed → length old.listed ≡ length old.trees →
     ((lane : ℕ) → lane < length old.trees → IsMarkedIn held core block which done (listed_at old lane) (listed_at new lane) lane) → ChangesMarks old new
-marks-only held core block which done old new trees stocks lengths ready reached usable long many each = record {
+marks-only held core block which done old new source opened trees stocks lengths ready reached usable long many each = record {
+  source = source;
+  opened = opened;
   trees = trees;
   stocks = stocks;
   lengths = lengths;
@@ -503,10 +529,11 @@ marked-already tables s lane l e =
     let was : Listed = listed_at l lane in
     let right : was ≡ all_marked tables s was = λ i. record { asks = was.asks; unheld = e i } in
     let all : l.listed ≡ set l.listed lane (all_marked tables s was) = sym (set-get_or l.listed lane nothing_listed) ∙ ap (set l.listed lane) right in
-    λ i. record { trees = l.trees; stocks = l.stocks; listed = all i; lengths = l.lengths; ready = l.ready; reached = l.reached; usable = l.usable }
+    ap (λ (ls : List Listed). record l { listed = ls }) all
 
-listed-marked : (tables : Tables) (s : State) (lane at : ℕ) (l : Laned) → IsListed l at → lane < length l.listed → IsListed (marked_in tables s lane l) at
-listed-marked tables s lane at l h low =
+listed-marked : (tables : Tables) (s : State) (lane at : ℕ) (l : Laned) (tree : Tree) → IsListedAs tree l at → lane < length l.listed →
+    IsListedAs tree (marked_in tables s lane l) at
+listed-marked tables s lane at l tree h low =
     let new = marked_in tables s lane l in
     let same : offers_at new at ≡ offers_at l at = (elim (cases_eq at lane) [
       | inl q ↦ ap (λ n. (get_or (set l.listed lane (record { asks = offers_at l lane; unheld = map (is_unheld tables s) (offers_at l lane) })) n
@@ -526,10 +553,18 @@ pub marked-listed : (tables : Tables) (s : State) (lane : ℕ) (l : Laned) → I
     AreListed (marked_in tables s lane l)
 marked-listed tables s lane l level there listed at low =
     let many = level.listed in
-    listed-marked tables s lane at l (listed at low) (omega (arith, there, many))
+    listed-marked tables s lane at l (tree_of_lane l at) (listed at low) (omega (arith, there, many))
+
+pub marked-opened : (tables : Tables) (s : State) (lane : ℕ) (l : Laned) → IsLevel l → lane < length l.trees → AreAsOpened l →
+    AreAsOpened (marked_in tables s lane l)
+marked-opened tables s lane l level there opened at is =
+    let many = level.listed in
+    listed-marked tables s lane at l (source_at l at) (opened at is) (omega (arith, there, many))
 
 pub level-marked : (tables : Tables) (s : State) (lane : ℕ) (l : Laned) → IsLevel l → IsLevel (marked_in tables s lane l)
 level-marked tables s lane l h = record {
+  sources = h.sources;
+  opened = h.opened;
   listed = length-set l.listed lane _ ∙ h.listed;
   lengths = h.lengths;
   ready = h.ready;
@@ -558,7 +593,7 @@ one-listed tables s cores lane old mid marked new o before at low =
       | inr l ↦ (let z : at ≡ lane = omega (arith, l, low) in subst (IsListed mid) (sym z) o.here)
     ]) in
     subst (λ (l : Laned). IsListed l at) (sym (o.counts ∙ ap (counted_at cores lane) o.marks))
-    (listed-counted cores lane at (marked_in tables s lane mid) (listed-marked tables s lane at mid was inside))
+    (listed-counted cores lane at (marked_in tables s lane mid) (listed-marked tables s lane at mid (tree_of_lane mid at) was inside))
 
 -- the marks and the count of a lane are right
 pub record IsRight (tables : Tables) (s : State) (cores : List Core) (l : Laned) (at : ℕ) : Type 0 where

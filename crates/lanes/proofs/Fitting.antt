@@ -5,7 +5,7 @@ use Rattle.std.specs.List.{sum_by}
 use Rattle.std.proofs.lemmas.Bool.{le-leb, lt-leb}
 use Rattle.std.proofs.lemmas.List.Sums.{sum_by-cons}
 use Rattle.cursors.specs.Stock.{FitsIn, Stock, Within, Empty, With, nodes, parts_in, room, total_nodes}
-use Rattle.scenario.specs.Tree.{Tree, Trees, One, Seq, Any, Times, Both, Nil, Cons, plain, plain_all}
+use Rattle.scenario.specs.Tree.{Tree, Trees, One, Seq, Any, Times, Both, Nil, Cons, plain, plain_all, trees_of}
 use Rattle.cursors.specs.declared.cursor.Cursor.{Cursor}
 use Rattle.scenario.specs.declared.tree.Scenario.{Scenario}
 use Rattle.scenario.specs.declared.tree.Scenario as scenario
@@ -15,9 +15,10 @@ use Rattle.scenario.specs.declared.tree.Scenario.TheVariants as rows
 use Rattle.std.specs.declared.vec.Vec.{Vec}
 use Rattle.cursors.proofs.Stock.{room-few}
 use Rattle.lanes.specs.declared.lanes.Lane.{Lane}
-use Rattle.lanes.specs.Fitting.{EachFits, Fits, LanesFit, how_many, lane_trees, parts_of_lanes}
-use Rattle.lanes.specs.Lanes.{Laned, Stocked}
-use Rattle.lanes.specs.inner.Kept.{stocked, stocks_in}
+use Rattle.lanes.specs.Fitting.{EachFits, Fits, KeepSource, LanesFit, how_many, lane_trees, parts_of_lanes}
+use Rattle.lanes.specs.Lanes.{Laned, Source, Stocked}
+use Rattle.lanes.specs.declared.lanes.Lanes.TheInside.{Inside}
+use Rattle.lanes.specs.inner.Kept.{laned, stocked, stocks_in}
 
 -- ---- what keeps them so
 
@@ -44,29 +45,51 @@ fits-set {A} {B} (x ∷ lanes) (Cons t ts) zero old new is more h =
 fits-set (x ∷ lanes) (Cons t ts) (suc n) old new is more h = (h.0, fits-set lanes ts n old new is more h.1)
 
 -- so it is where it fits in its tree
-pub fits-put : {A B C : Type 0} (lanes : List (Lane A B)) (ss : List (Scenario C)) (n : ℕ) (old new : Lane A B) (s : Scenario C) →
-    old ≡ get_or lanes n old → s ≡ get_or ss n s → (FitsIn old.rest (plain s) → FitsIn new.rest (plain s)) →
-    EachFits (stocks_in lanes) (plain_all ss) → EachFits (stocks_in (set lanes n new)) (plain_all ss)
-fits-put [] ss n old new s is at more h = h
-fits-put (x ∷ lanes) [] n old new s is at more h = absurd h
-fits-put {A} {B} {C} (x ∷ lanes) (u ∷ ss) zero old new s is at more h =
+pub fits-put : {A B : Type 0} (lanes : List (Lane A B)) (ts : List Tree) (n : ℕ) (old new : Lane A B) (t : Tree) → old ≡ get_or lanes n old →
+    t ≡ get_or ts n t → (FitsIn old.rest t → FitsIn new.rest t) → EachFits (stocks_in lanes) (trees_of ts) → EachFits (stocks_in (set lanes n new)) (trees_of ts)
+fits-put [] ts n old new t is at more h = h
+fits-put (x ∷ lanes) [] n old new t is at more h = absurd h
+fits-put {A} {B} (x ∷ lanes) (u ∷ ts) zero old new t is at more h =
     let e : old ≡ x = is in
-    let d : s ≡ u = at in
-    let here : Fits (stocked x.rest) (plain s) = subst (λ (v : Scenario C). Fits (stocked x.rest) (plain v)) (sym d) h.0 in
-    let was : Fits (stocked old.rest) (plain s) = subst (λ (l : Lane A B). Fits (stocked l.rest) (plain s)) (sym e) here in (
-      subst (λ (v : Scenario C). Fits (stocked new.rest) (plain v)) d
-          (fits-cursor new.rest (plain s) (more (cursor-fits old.rest (plain s) was))),
-      h.1,
-    )
-fits-put (x ∷ lanes) (u ∷ ss) (suc n) old new s is at more h = (h.0, fits-put lanes ss n old new s is at more h.1)
+    let d : t ≡ u = at in
+    let here : Fits (stocked x.rest) t = subst (λ (v : Tree). Fits (stocked x.rest) v) (sym d) h.0 in
+    let was : Fits (stocked old.rest) t = subst (λ (l : Lane A B). Fits (stocked l.rest) t) (sym e) here in
+    (subst (λ (v : Tree). Fits (stocked new.rest) v) d (fits-cursor new.rest t (more (cursor-fits old.rest t was))), h.1)
+fits-put (x ∷ lanes) (u ∷ ts) (suc n) old new t is at more h = (h.0, fits-put lanes ts n old new t is at more h.1)
 
 -- one lane more, and one tree
-pub fits-push : {A B C : Type 0} (lanes : List (Lane A B)) (ss : List (Scenario C)) (lane : Lane A B) (s : Scenario C) →
-    EachFits (stocks_in lanes) (plain_all ss) → FitsIn lane.rest (plain s) → EachFits (stocks_in (lanes ++ lane ∷ [])) (plain_all (ss ++ s ∷ []))
-fits-push [] [] lane s h f = (fits-cursor lane.rest (plain s) f, tt)
-fits-push [] (u ∷ ss) lane s h f = absurd h
-fits-push (x ∷ lanes) [] lane s h f = absurd h
-fits-push (x ∷ lanes) (u ∷ ss) lane s h f = (h.0, fits-push lanes ss lane s h.1 f)
+pub fits-push : {A B : Type 0} (lanes : List (Lane A B)) (ts : List Tree) (lane : Lane A B) (t : Tree) →
+    EachFits (stocks_in lanes) (trees_of ts) → FitsIn lane.rest t → EachFits (stocks_in (lanes ++ lane ∷ [])) (trees_of (ts ++ t ∷ []))
+fits-push [] [] lane t h f = (fits-cursor lane.rest t f, tt)
+fits-push [] (u ∷ ts) lane t h f = absurd h
+fits-push (x ∷ lanes) [] lane t h f = absurd h
+fits-push (x ∷ lanes) (u ∷ ts) lane t h f = (h.0, fits-push lanes ts lane t h.1 f)
+
+-- ---- the source, and what fits in it
+
+pub keeps : (old new : Laned) → new.source ≡ old.source → ((ts : Trees) → trees_of old.source.trees ≡ ts → EachFits old.stocks ts → EachFits new.stocks ts) →
+    KeepSource old new
+keeps old new source each = record {
+  source = source;
+  fits = λ t h. record {
+    source = ap (λ (s : Source). trees_of s.trees) source ∙ h.source;
+    each = each (lane_trees t) h.source h.each;
+  };
+}
+
+-- the cursor of one lane is changed, and fits in what it fitted in
+pub keeps-step : {A B : Type 0} (l : Inside A B) (seen new : Laned) (lane : ℕ) (old made : Lane A B) → laned l ≡ seen → new.source ≡ (laned l).source →
+    new.stocks ≡ stocks_in (set l.lanes.items lane made) → old ≡ get_or l.lanes.items lane old → ((t : Tree) → FitsIn old.rest t → FitsIn made.rest t) →
+    KeepSource seen new
+keeps-step l seen new lane old made view source stocks is more =
+    subst (λ (s : Laned). KeepSource s new) view (keeps (laned l) new source
+    (λ ts of h. fits-same _ new.stocks ts stocks (fits-set l.lanes.items ts lane old made is more h)))
+
+pub keeps-same : (old new : Laned) → new.source ≡ old.source → new.stocks ≡ old.stocks → KeepSource old new
+keeps-same old new source stocks = keeps old new source (λ ts of h. fits-same old.stocks new.stocks ts stocks h)
+
+pub keeps-both : (a b c : Laned) → KeepSource a b → KeepSource b c → KeepSource a c
+keeps-both a b c one two = record { source = two.source ∙ one.source; fits = λ t h. two.fits t (one.fits t h) }
 
 -- ---- how many there are
 
@@ -83,20 +106,6 @@ many-all (s ∷ ss) = let e = many-all ss in omega (arith, e)
 -- a row of few trees has a lane for each
 pub few-lanes : (ts : Trees) → how_many ts ≤ 2 ^ 31 → lane_trees (Both ts) ≡ ts
 few-lanes ts few = ap (λ b. if b then ts else Cons (Both ts) Nil) (le-leb (how_many ts) (2 ^ 31) few)
-
--- whether a row has few trees or many, what fits in each of its trees fits in those that it has lanes of
-pub fits-row : {A B : Type 0} (old new : List (Lane A B)) (ts : Trees) → length old ≡ how_many ts →
-    (EachFits (stocks_in old) ts → EachFits (stocks_in new) ts) → EachFits (stocks_in old) (lane_trees (Both ts)) →
-    EachFits (stocks_in new) (lane_trees (Both ts))
-fits-row {A} {B} old new ts same more = by (leb (how_many ts) (2 ^ 31)) refl
-  where
-    by : (b : Bool) → leb (how_many ts) (2 ^ 31) ≡ b → EachFits (stocks_in old) (if b then ts else Cons (Both ts) Nil) →
-        EachFits (stocks_in new) (if b then ts else Cons (Both ts) Nil)
-    by true e h = more h
-    by false e h =
-        let one = fits-many old (Cons (Both ts) Nil) h in
-        let few : how_many ts ≤ 2 ^ 31 = omega (arith, one, same) in
-        absurd (let both : true ≡ false = sym (le-leb (how_many ts) (2 ^ 31) few) ∙ e in cc both)
 
 -- ---- how few parts they hold
 
@@ -131,7 +140,7 @@ lanes-few ss (Both ts) h = by (leb (how_many ts) (2 ^ 31)) h
     by false h = let few = each-few ss (Cons (Both ts) Nil) h in omega (arith, few)
 
 pub lanes-small : (l : Laned) (t : Tree) → LanesFit l t → parts_of_lanes l ≤ nodes t
-lanes-small l t h = lanes-few l.stocks t h
+lanes-small l t h = lanes-few l.stocks t h.each
 
 -- a row of many trees has one lane
 pub many-lanes : (ts : Trees) → 2 ^ 31 < how_many ts → lane_trees (Both ts) ≡ Cons (Both ts) Nil

@@ -18,10 +18,10 @@ use Rattle.scenario.specs.Taking.{offers}
 use Rattle.schedule.specs.Choices.{choices_of, offers_from}
 use Rattle.lanes.specs.declared.lanes.Lane.{Lane}
 use Rattle.cursors.specs.Cursors.{remaining}
-use Rattle.lanes.specs.Lanes.{AreReady, Laned, choices_by, listed_at, offers_at, puttable, whole}
+use Rattle.lanes.specs.Lanes.{AreReady, Laned, choices_by, listed_at, offers_at, puttable, source_at, whole}
 use Rattle.world.specs.View.{View}
 use Rattle.lanes.specs.declared.lanes.Lanes.TheInside.{Inside}
-use Rattle.lanes.specs.inner.Kept.{AreListed, AreSound, IsLevel, IsListed, laned, listed_in, tree_of_lane, trees_in}
+use Rattle.lanes.specs.inner.Kept.{AreAsOpened, AreListed, AreSound, IsLevel, IsListedAs, laned, listed_in, tree_of_lane, trees_in}
 use Rattle.schedule.specs.Listed.{nothing_listed}
 use Rattle.schedule.specs.Marks.{offers_by}
 use Rattle.schedule.specs.declared.choosing.Choice.TheVariants.{Deliver}
@@ -47,11 +47,44 @@ pub choices-usable : (world : View) (cores : List Core) (l : Laned) → l.usable
 choices-usable world cores l usable = sym (ap (λ t. if t then choices_of world.tables world.state cores (whole l) else []) usable)
 
 -- whether lanes are spoilt doesn't change what is kept of them
-pub listed-said : (l : Laned) (b : Bool) (lane : ℕ) → IsListed l lane → IsListed (record l { usable = b }) lane
-listed-said l b lane h = record { offered = h.offered; count = h.count; short = h.short; reached = h.reached }
+pub listed-said : (l : Laned) (b : Bool) (tree : Tree) (lane : ℕ) → IsListedAs tree l lane → IsListedAs tree (record l { usable = b }) lane
+listed-said l b tree lane h = record { offered = h.offered; count = h.count; short = h.short; reached = h.reached }
+
+pub opened-said : (l : Laned) (b : Bool) → AreAsOpened l → AreAsOpened (record l { usable = b })
+opened-said l b opened lane is = listed-said l b (source_at l lane) lane (opened lane is)
 
 pub level-said : (l : Laned) (b : Bool) → IsLevel l → IsLevel (record l { usable = b })
-level-said l b h = record { listed = h.listed; lengths = h.lengths; ready = h.ready; few = h.few; rows = h.rows }
+level-said l b h = record {
+  sources = h.sources;
+  opened = h.opened;
+  listed = h.listed;
+  lengths = h.lengths;
+  ready = h.ready;
+  few = h.few;
+  rows = h.rows;
+}
+
+-- nor do the marks that are noted
+pub listed-noted : (l : Laned) (marks : List (List Bool)) → AreListed l →
+    AreListed (record l { source = record { trees = l.source.trees; marks = marks } })
+listed-noted l marks listed lane low =
+    let h = listed lane low in record { offered = h.offered; count = h.count; short = h.short; reached = h.reached }
+
+pub opened-noted : (l : Laned) (marks : List (List Bool)) → AreAsOpened l →
+    AreAsOpened (record l { source = record { trees = l.source.trees; marks = marks } })
+opened-noted l marks opened lane is =
+    let h = opened lane is in record { offered = h.offered; count = h.count; short = h.short; reached = h.reached }
+
+pub level-noted : (l : Laned) (marks : List (List Bool)) → IsLevel l → IsLevel (record l { source = record { trees = l.source.trees; marks = marks } })
+level-noted l marks h = record {
+  sources = h.sources;
+  opened = h.opened;
+  listed = h.listed;
+  lengths = h.lengths;
+  ready = h.ready;
+  few = h.few;
+  rows = h.rows;
+}
 
 -- the lengths are those of what the trees offer
 pub lengths-are : (l : Laned) → AreLanesKept l → l.lengths ≡ lengths_of l.trees

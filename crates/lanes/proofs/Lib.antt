@@ -1,6 +1,7 @@
 pub mod Rows
 pub mod Fitting
 pub mod Offered
+pub mod Opening
 pub mod Kept
 pub mod Listing
 pub mod Counting

@@ -1,8 +1,8 @@
 -- When lanes fit in a scenario, and how many parts they hold.
-use Rattle.std.specs.Prelude.{◌≢◌, ◌+◌, ◌^◌, ◌⊎◌, ℕ, ⊤, if◌then◌else◌, nat_le, List, [], ◌∷◌, Result, IsOk, length}
+use Rattle.std.specs.Prelude.{◌≡◌, ◌+◌, ◌^◌, ℕ, ⊤, if◌then◌else◌, nat_le, List, [], ◌∷◌}
 use Rattle.std.specs.List.{sum_by}
 use Rattle.cursors.specs.Stock.{Within, parts_in, room}
-use Rattle.scenario.specs.Tree.{Tree, Trees, One, Seq, Any, Times, Both, Nil, Cons}
+use Rattle.scenario.specs.Tree.{Tree, Trees, One, Seq, Any, Times, Both, Nil, Cons, trees_of}
 use Rattle.lanes.specs.Lanes.{Laned, Stocked}
 
 -- how many trees these are
@@ -29,13 +29,15 @@ EachFits [] (Cons t ts) = ⊥
 EachFits (s ∷ ss) Nil = ⊥
 EachFits (s ∷ ss) (Cons t ts) = Fits s t × EachFits ss ts
 
--- lanes fit in a scenario: there is one for each tree that it has lanes of, and the lane's cursor fits in that
-abbrev pub LanesFit : Laned → Tree → Type 0
-LanesFit l t = EachFits l.stocks (lane_trees t)
+-- lanes fit in a scenario: they go on from the trees that it has lanes of where they are restarted, and the cursor of each fits in its tree
+pub record LanesFit (l : Laned) (t : Tree) : Type 0 where
+  pub source : trees_of l.source.trees ≡ lane_trees t
+  pub each : EachFits l.stocks (lane_trees t)
 
--- lanes that go on from a scenario fit in it, where they did before; and where they go on indeed and it has another number of lanes
-abbrev pub FitAgain : {T E : Type 0} → Tree → Result T E → Laned → Laned → Type 0
-FitAgain t result old new = LanesFit old t ⊎ (IsOk result × (length old.trees ≢ how_many (lane_trees t))) → LanesFit new t
+-- the source is the same, and lanes fit in each scenario that they fitted in
+pub record KeepSource (old new : Laned) : Type 0 where
+  pub source : new.source ≡ old.source
+  pub fits : (t : Tree) → LanesFit old t → LanesFit new t
 
 -- how many parts the cursors of all lanes hold, in use or kept for later: a root each, and all that this holds
 abbrev pub parts_of_lanes : Laned → ℕ

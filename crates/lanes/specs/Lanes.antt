@@ -1,5 +1,5 @@
 -- What is left of a scenario, by its lanes: the trees that go on at once at its top.
-use Rattle.std.specs.Prelude.{◌≡◌, ◌≢◌, ◌<◌, ℕ, Bool, true, false, if◌then◌else◌, List, [], Some, length, slice_index, slice_index_or}
+use Rattle.std.specs.Prelude.{◌≡◌, ◌≢◌, ◌<◌, ℕ, Bool, true, false, if◌then◌else◌, List, [], Some, length, map, slice_get, slice_index, slice_index_or}
 use Rattle.base.specs.declared.ids.CacheId.{CacheId}
 use Rattle.base.specs.declared.ids.Place.TheVariants.{Cache}
 use Rattle.base.specs.declared.step.CoreAsk.{CoreAsk}
@@ -10,12 +10,12 @@ use Rattle.machine.specs.Machine.{State}
 use Rattle.machine.specs.Made.{IsTold, place_of}
 use Rattle.cores.specs.Cores.{Core, is_free}
 use Rattle.scenario.specs.Alike.{Alike}
-use Rattle.scenario.specs.Tree.{Tree, Both, trees_of}
+use Rattle.scenario.specs.Tree.{Tree, Both, Nil, Seq, trees_of}
 use Rattle.scenario.specs.Taking.{offers}
 use Rattle.cursors.specs.Stock.{Stock}
 use Rattle.schedule.specs.Choices.{choices_of, offers_from}
 use Rattle.schedule.specs.declared.choosing.Choice.{Choice}
-use Rattle.schedule.specs.Listed.{IsMarked, Listed, nothing_listed}
+use Rattle.schedule.specs.Listed.{IsMarked, Listed, is_unheld, nothing_listed}
 use Rattle.world.specs.View.{View}
 
 -- the parts that a cursor holds, in use or kept for later, and those that it may want
@@ -23,9 +23,16 @@ pub record Stocked : Type 0 where
   pub held : Stock
   pub wanted : Stock
 
--- of each lane the tree that is left, the parts of its cursor, what it offers, how many offers that is, and how many of them
+-- of each lane the tree that it goes on from where it is restarted, and the marks that the offers of this had where lanes were opened
+pub record Source : Type 0 where
+  pub trees : List Tree
+  pub marks : List (List Bool)
+
+-- what lanes are restarted from, and whether of each lane this is listed; of each lane the tree that is left, the parts of its cursor, what it offers, how many offers that is, and how many of them
 -- can be put; of each core the lanes that may offer an ask of it; and whether they aren't spoilt
 pub record Laned : Type 0 where
+  pub source : Source
+  pub as_opened : List Bool
   pub trees : List Tree
   pub stocks : List Stocked
   pub listed : List Listed
@@ -85,10 +92,26 @@ pub record AreCurrent (world : View) (cores : List Core) (l : Laned) : Type 0 wh
   pub usable : l.usable ≡ true
   pub ready : AreReadyIn world cores l
 
--- all of a tree is left, and the marks and counts are right in a world and with these cores
-pub record AreOpened (tree : Tree) (world : View) (cores : List Core) (l : Laned) : Type 0 where
-  pub left : AreLeft tree l
+-- the tree that a lane goes on from where it is restarted
+abbrev pub source_at : Laned → ℕ → Tree
+source_at l lane = slice_index_or l.source.trees lane (Seq Nil)
+
+-- the marks that were noted of the source are right in a world
+abbrev pub IsSourceIn : Tables → State → Laned → Type 0
+IsSourceIn tables state l = (lane : ℕ) (marks : List Bool) →
+    slice_get l.source.marks lane ≡ Some marks → marks ≡ map (is_unheld tables state) (offers (source_at l lane))
+
+-- all of the source is left, and the marks and counts are right in a world and with these cores
+pub record AreAgain (world : View) (cores : List Core) (l : Laned) : Type 0 where
+  pub usable : l.usable ≡ true
+  pub whole : l.trees ≡ l.source.trees
   pub ready : AreReadyIn world cores l
+
+-- so it is, the source is this tree or alike, and its marks are right in this world too
+pub record AreOpened (tree : Tree) (world : View) (cores : List Core) (l : Laned) : Type 0 where
+  pub again : AreAgain world cores l
+  pub alike : Alike (Both (trees_of l.source.trees)) tree
+  pub source : IsSourceIn world.tables world.state l
 
 -- the cores that are free are those that were
 abbrev pub AreAsFree : List Core → List Core → Type 0

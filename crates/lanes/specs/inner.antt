@@ -1,3 +1,4 @@
 pub mod Changes
 pub mod Code
 pub mod Kept
+pub mod Opening

@@ -6,7 +6,8 @@ mod making;
 mod marking;
 
 use cursors::Cursor;
-use rows::Sums;
+use rows::{Bits, Sums};
+use scenario::Scenario;
 use schedule::Asks;
 use std::alloc::Allocator;
 use std::marker::Model;
@@ -21,6 +22,11 @@ use std::marker::Model;
 ///
 /// Where memory was refused lanes are spoilt: they have no choice, and are of use again once they are restarted.
 pub struct Lanes<'s, A: Allocator, B: Allocator> {
+    // Of each lane the tree that it goes on from where it is restarted, the marks of what this offers, and whether what is listed
+    // is that.
+    sources: Vec<&'s Scenario<A>>,
+    marks: Vec<Bits>,
+    as_opened: Vec<bool>,
     lanes: Vec<Lane<'s, A, B>>,
     // Of each lane how many offers it has, and how many of them can be put.
     lengths: Sums,
@@ -51,6 +57,9 @@ impl<'s, A: Allocator, B: Allocator> Drop for Lanes<'s, A, B> {
     fn drop(self) {
         // One call drops all its parts.
         let Lanes {
+            sources: _,
+            marks: _,
+            as_opened: _,
             lanes: _,
             lengths: _,
             ready: _,

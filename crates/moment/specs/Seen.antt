@@ -11,13 +11,15 @@ use Rattle.scenario.specs.Tree.{Tree}
 use Rattle.schedule.specs.Choices.{chosen_step}
 use Rattle.schedule.specs.declared.choosing.Choice.{Choice}
 use Rattle.world.specs.View.{View}
-use Rattle.moment.specs.Moments.{Moment, IsAtRest, choices_at, moment_after}
+use Rattle.moment.specs.Moments.{Moment, IsAtRest, choices_at, moment_after, opened_moment}
 
--- the shape of the world, its tables and opening values, and the moment that it is at; none where memory was refused, until it is restarted
+-- the shape of the world, its tables and opening values, the scenario of which all is left where it is restarted, and the moment that it is at;
+-- none where memory was refused, until it is restarted
 pub record Seen : Type 0 where
   pub shape : Extent
   pub tables : Tables
   pub opening : List ℕ
+  pub scenario : Tree
   pub now : Option Moment
 
 -- what can happen next
@@ -44,11 +46,12 @@ pub record MakesChoice (old : Seen) (k : ℕ) (step : Step) (made : Made) (new :
 abbrev pub Rests : Seen → Type 0
 Rests s = MatchOption s.now ⊥ IsAtRest
 
--- shape, tables and opening values are the same
+-- shape, tables, opening values and scenario are the same
 pub record IsLike (old new : Seen) : Type 0 where
   pub shape : new.shape ≡ old.shape
   pub tables : new.tables ≡ old.tables
   pub opening : new.opening ≡ old.opening
+  pub scenario : new.scenario ≡ old.scenario
 
 -- a world is that of the moment
 pub record IsWorldOf (w : View) (s : Seen) : Type 0 where
@@ -56,3 +59,9 @@ pub record IsWorldOf (w : View) (s : Seen) : Type 0 where
   pub tables : w.tables ≡ s.tables
   pub opening : w.opening ≡ s.opening
   pub state : IfSome s.now (λ m. w.state ≡ m.state)
+
+-- a run of a scenario starts in a world; it is restarted from that scenario, or from one that is alike
+pub record StartsIn (w : View) (tree : Tree) (s : Seen) : Type 0 where
+  pub world : IsWorldOf w s
+  pub at : IsAt s (opened_moment w.shape w.opening tree)
+  pub scenario : Alike s.scenario tree

@@ -2,9 +2,7 @@
 
 ghost use Rattle.std.specs.Prelude.{MatchResult};
 ghost use Rattle.lanes.specs.Lanes.{IsSpoilt};
-ghost use Rattle.moment.specs.Seen.{IsLike};
-ghost use Rattle.moment.specs.inner.Going.{GoesOn, IsNext};
-ghost use Rattle.moment.specs.inner.Holding.{seen_of};
+ghost use Rattle.moment.specs.inner.Going.{GoesOn, IsNext, StaysUnder};
 
 use crate::noting::note;
 use base::{NoMemory, Step};
@@ -25,7 +23,7 @@ pub(crate) fn go_on<A: Allocator, B: Allocator + Clone>(
     pick: Pick,
 ) -> Result<(Step, Made), NoMemory>
     requires { IsNext pick world.old cores.old lanes.old }
-    ensures like { IsLike (seen_of world.old cores.old lanes.old) (seen_of world.new cores.new lanes.new) }
+    ensures under { StaysUnder world.old world.new lanes.old lanes.new }
     ensures made { MatchResult result
         (λ made. GoesOn pick made.0 made.1 world.old cores.old lanes.old world.new cores.new lanes.new)
         (λ _. IsSpoilt lanes.new) }

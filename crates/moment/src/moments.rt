@@ -48,11 +48,11 @@ impl<'s, A: Allocator, B: Allocator> Drop for Moment<'s, A, B> {
 }
 
 impl<'s, A: Allocator, B: Allocator + Clone> Moment<'s, A, B> {
-    ghost use Rattle.std.specs.Prelude.{◌≡◌, ◌<◌, ◌↔◌, IfOk, MatchResult, OnErr, OnOk, None, true, length};
+    ghost use Rattle.std.specs.Prelude.{◌≡◌, ◌<◌, IfOk, MatchResult, OnErr, OnOk, None, length};
     ghost use Rattle.machine.specs.Machine.{opened};
     ghost use Rattle.scenario.specs.Tree.{plain};
     ghost use Rattle.moment.specs.Moments.{opened_moment};
-    ghost use Rattle.moment.specs.Seen.{IsAt, IsLike, IsWorldOf, MakesChoice, Rests, choices_in};
+    ghost use Rattle.moment.specs.Seen.{IsAt, IsLike, MakesChoice, StartsIn, choices_in};
 
     /// The moment at which a run of a scenario starts, in a world that has made no step.
     pub fn open(
@@ -61,8 +61,7 @@ impl<'s, A: Allocator, B: Allocator + Clone> Moment<'s, A, B> {
         world: World,
     ) -> Result<Moment<'s, A, B>, NoMemory>
         requires { world.state ≡ opened world.shape world.opening }
-        ensures world { IfOk result (λ moment. IsWorldOf world moment) }
-        ensures at { IfOk result (λ moment. IsAt moment (opened_moment world.shape world.opening (plain scenario.entry.now))) }
+        ensures { IfOk result (StartsIn world (plain scenario.entry.now)) }
     {
         let caches = world.shape().caches();
         let cores = Cores::open(alloc, caches)?;
@@ -74,20 +73,18 @@ impl<'s, A: Allocator, B: Allocator + Clone> Moment<'s, A, B> {
         })
     }
 
-    /// The same for another run, whatever moment it was before. Its memory is used again, so that the start costs what the runs
-    /// have touched, however many blocks there are.
-    pub fn restart(&mut self, alloc: Global, scenario: &'s Scenario<A>) -> Result<(), NoMemory>
+    /// The moment at which another run of the scenario starts, whatever moment it was before. Its memory is used again, so that the
+    /// start costs what the runs have touched, however many blocks and asks there are.
+    pub fn restart(&mut self) -> Result<(), NoMemory>
         ensures like { IsLike self.old self.new }
-        ensures ok { OnOk result (IsAt self.new (opened_moment self.old.shape self.old.opening (plain scenario.entry.now))) }
+        ensures ok { OnOk result (IsAt self.new (opened_moment self.old.shape self.old.opening self.old.scenario)) }
         ensures err { OnErr result (self.new.now ≡ None) }
     {
         self.lanes.spoil();
         let caches = self.world.shape().caches();
         self.world.restart();
         self.cores.reset(caches)?;
-        self.lanes
-            .restart(alloc, scenario, caches, &self.world, &self.cores)?;
-        Ok(())
+        self.lanes.restart(&self.world, &self.cores)
     }
 
     /// Makes the k-th choice, counted from 0, and answers its step and what that came to. What is made anew for the scenario is `alloc`'s.

@@ -1,5 +1,6 @@
 pub mod Bridge
 pub mod Copied
+pub mod Copying
 pub mod Counted
 pub mod Fronts
 pub mod Held

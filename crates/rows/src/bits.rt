@@ -2,7 +2,7 @@ ghost use Rattle.std.specs.Prelude.{◌≡◌, ℕ, ◌+◌, ◌*◌, ◌<◌, �
 ghost use Rattle.std.specs.Prelude.{IfOk, IfSome, IsSome, OnErr, OnOk, length, replicate, slice_set};
 ghost use Rattle.std.specs.Int.{bit_at};
 ghost use Rattle.rows.specs.Flags.{HasPut, IsFirstFrom, IsKth, NoneFrom, is_set, set_count};
-ghost use Rattle.rows.specs.inner.Words.{low};
+ghost use Rattle.rows.specs.inner.Words.{copied, low};
 
 use base::NoMemory;
 use std::alloc::Global;
@@ -50,6 +50,15 @@ impl Bits {
             places: self.places,
             ones: self.ones,
         })
+    }
+
+    /// The flags of another row, of as many.
+    pub fn copy(&mut self, from: &Bits)
+        requires { length from.now ≡ length self.old }
+        ensures { self.new ≡ from.now }
+    {
+        copy_over(self.words.as_mut_slice(), from.words.as_slice());
+        self.ones = from.ones;
     }
 
     /// How many flags there are.
@@ -181,6 +190,14 @@ fn wipe(words: &mut Vec<u64>, ones: &mut u32)
 {
     words.fill(0);
     *ones = 0;
+}
+
+/// Copies words over as many others as there are.
+fn copy_over(words: &mut [u64], from: &[u64])
+    ensures { words.new ≡ copied from.now words.old }
+{
+    let count = words.len().min(from.len());
+    words[..count].copy_from_slice(&from[..count]);
 }
 
 /// The lowest bit from one on that is set, if there is one.

@@ -206,6 +206,21 @@ impl Asks {
         true
     }
 
+    /// The marks, one beside each ask.
+    pub fn marks(&self) -> &Bits
+        ensures { result.now ≡ self.now.unheld }
+    {
+        &self.unheld
+    }
+
+    /// Has these marks in place of its own.
+    pub fn put_marks(&mut self, marks: &Bits)
+        requires { length marks.now ≡ length self.old.asks }
+        ensures { self.new ≡ record { asks = self.old.asks; unheld = marks.now } }
+    {
+        self.unheld.copy(marks);
+    }
+
     /// Marks all asks anew.
     pub fn mark_all(&mut self, world: &World)
         ensures { self.new ≡ all_marked world.now.tables world.now.state self.old }

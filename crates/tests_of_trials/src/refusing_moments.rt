@@ -29,17 +29,16 @@ fn lead(alloc: Global, moment: &mut Moment<'_, Global, Global>) -> Result<u32, N
 }
 
 /// Leads a moment to its rest, from the start again where a refusal has spoilt it.
-fn lead_at_last<'s>(
+fn lead_at_last(
     rt: &impl Abort,
     alloc: Global,
-    moment: &mut Moment<'s, Global, Global>,
-    tree: &'s Scenario<Global>,
+    moment: &mut Moment<'_, Global, Global>,
     wanted: u32,
 ) {
     let mut made = lead(alloc, moment);
     if made.is_err() {
         same(rt, &moment.count(), &0);
-        moment.restart(alloc, tree).expect(rt, "a second refusal");
+        moment.restart().expect(rt, "a second refusal");
         made = lead(alloc, moment);
     }
     same(rt, &made.expect(rt, "a second refusal"), &wanted);
@@ -47,16 +46,15 @@ fn lead_at_last<'s>(
 }
 
 /// Leads a moment to its rest, and once more from the start.
-fn lead_twice<'s>(
+fn lead_twice(
     rt: &impl Abort,
     alloc: Global,
-    moment: &mut Moment<'s, Global, Global>,
-    tree: &'s Scenario<Global>,
+    moment: &mut Moment<'_, Global, Global>,
     wanted: u32,
 ) -> Result<(), NoMemory> {
-    lead_at_last(rt, alloc, moment, tree, wanted);
-    moment.restart(alloc, tree)?;
-    lead_at_last(rt, alloc, moment, tree, wanted);
+    lead_at_last(rt, alloc, moment, wanted);
+    moment.restart()?;
+    lead_at_last(rt, alloc, moment, wanted);
     Ok(())
 }
 
@@ -69,7 +67,7 @@ fn lead_new(
     let mut world = opened(rt, alloc)?;
     world.restart();
     let mut moment = Moment::open(alloc, tree, world)?;
-    Ok(lead_twice(rt, alloc, &mut moment, tree, wanted)?)
+    Ok(lead_twice(rt, alloc, &mut moment, wanted)?)
 }
 
 /// Leads moments of a scenario for three caches, of which so many choices lead to the rest.

@@ -46,7 +46,7 @@ starts none terms tree number c s =
     let nothing : c.recording.entries ≡ [] = ap (λ (r : RecordingView). r.entries) s.recording in
     let steps : steps_of c.recording ≡ [] = ap steps_of s.recording in
     record {
-      under = s.under;
+      under = s.of.under;
       shape = ap (λ (r : RecordingView). r.shape) s.recording;
       tables = ap (λ (r : RecordingView). r.tables) s.recording;
       opening = ap (λ (r : RecordingView). r.opening) s.recording;

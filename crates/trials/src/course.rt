@@ -35,7 +35,8 @@ impl<'s, 'b, A: Allocator, N: Notes> Course<'s, 'b, A, N> {
     ghost use Rattle.std.specs.Prelude.{◌≡◌, ◌<◌, IfOk, IfSome, OnOk, length};
     ghost use Rattle.moment.specs.Seen.{IsLike, choices_in};
     ghost use Rattle.record.specs.View.{RecordingView};
-    ghost use Rattle.scenario.specs.Tree.{plain};
+    ghost use Rattle.scenario.specs.Alike.{Alike};
+    ghost use Rattle.scenario.specs.Tree.{Tree, plain};
     ghost use Rattle.trials.specs.inner.Going.{Begins, Chooses, Ends, IsStart, IsUnder, IsVerdictAtRest, MakesNoted, blank, parts_of};
 
     /// The start of the trial of this number, with notes of no entry.
@@ -60,22 +61,15 @@ impl<'s, 'b, A: Allocator, N: Notes> Course<'s, 'b, A, N> {
 
     /// The start of the trial of this number, with notes of no entry, whatever trial under this setup it was before. Its
     /// memory is used again, so that the start costs what trials have touched, however many blocks there are.
-    pub(crate) fn restart(
-        &mut self,
-        alloc: Global,
-        scenario: &'s Scenario<A>,
-        setup: &Setup,
-        number: u32,
-        notes: N,
-    ) -> Result<(), NoMemory>
+    pub(crate) fn restart(&mut self, setup: &Setup, number: u32, notes: N) -> Result<(), NoMemory>
         requires under { IsUnder setup.now self.old.moment }
         requires notes { N.tells notes (blank setup.now) }
-        ensures under { IsUnder setup.now self.new.moment }
-        ensures ok { OnOk result (Begins N.tells setup.now (plain scenario.entry.now) number self.new) }
+        ensures like { IsLike self.old.moment self.new.moment }
+        ensures ok { (tree : Tree) → Alike self.old.moment.scenario tree → OnOk result (Begins N.tells setup.now tree number self.new) }
     {
         self.notes = notes;
         self.dice = Dice::new(setup.seed(), u64::from(number));
-        self.moment.restart(alloc, scenario)
+        self.moment.restart()
     }
 
     /// Makes steps until the trial ends, at most so many.

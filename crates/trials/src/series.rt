@@ -4,7 +4,7 @@ ghost use Rattle.std.specs.Prelude.{◌≡◌, IfOk, MatchOption, OnErr, OnOk};
 ghost use Rattle.std.specs.Option.{ForSome};
 ghost use Rattle.scenario.specs.Tree.{plain};
 ghost use Rattle.moment.specs.Seen.{IsLike};
-ghost use Rattle.trials.specs.inner.Going.{Begins, IsUnder};
+ghost use Rattle.trials.specs.inner.Going.{Begins, IsOf};
 ghost use Rattle.trials.specs.inner.Notes.{counts};
 ghost use Rattle.trials.specs.Trial.{IsResult};
 
@@ -26,7 +26,7 @@ pub struct Series<'s, 'b, A: Allocator> {
     setup: &'s Setup,
     // The last trial, if there was one.
     course: Option<Course<'s, 'b, A, Tally>>,
-    ghost under: { ForSome course (λ it. IsUnder setup.now it.moment) },
+    ghost of: { ForSome course (λ it. IsOf setup.now (plain scenario.now) it.moment) },
 }
 
 impl<'s, 'b, A: Allocator> Drop for Series<'s, 'b, A> {
@@ -76,7 +76,7 @@ impl<'s, 'b, A: Allocator> Series<'s, 'b, A> {
         trials_under_tables_that_keep_going();
         setups_are_lawful(self.setup);
         if let Some(course) = &mut self.course {
-            course.restart(self.alloc, self.scenario, self.setup, number, Tally::new())?;
+            course.restart(self.setup, number, Tally::new())?;
             return finish(course, self.arena, self.scenario, self.setup, number);
         }
         first(
@@ -99,9 +99,9 @@ fn first<'s, 'b, A: Allocator>(
     setup: &Setup,
     number: u32,
 ) -> Result<TrialResult, NoMemory>
-    requires { ForSome course.old (λ it. IsUnder setup.now it.moment) }
+    requires { ForSome course.old (λ it. IsOf setup.now (plain scenario.now) it.moment) }
     ensures result { IfOk result (λ made. IsResult setup.now (plain scenario.entry.now) number made) }
-    ensures under { ForSome course.new (λ it. IsUnder setup.now it.moment) }
+    ensures of { ForSome course.new (λ it. IsOf setup.now (plain scenario.now) it.moment) }
 {
     open(course, alloc, scenario, setup, number)?;
     let Some(opened) = course else {

@@ -15,7 +15,7 @@ use Rattle.blocks.specs.declared.block.asking.HeldAsks.{HeldAsks}
 use Rattle.cores.specs.Cores.{Core, is_free}
 use Rattle.scenario.specs.Alike.{Alike}
 use Rattle.scenario.specs.Taking.{left}
-use Rattle.lanes.specs.Lanes.{Laned, AreReady, AreReadyIn, FollowsStep, listed_at, offers_at, puttable, whole}
+use Rattle.lanes.specs.Lanes.{Laned, AreReady, FollowsStep, listed_at, offers_at, puttable, whole}
 use Rattle.lanes.specs.inner.Kept.{AreListed, IsListed, lanes_of}
 use Rattle.schedule.specs.Listed.{IsMarked, Listed, nothing_listed}
 use Rattle.schedule.specs.Marks.{all_marked, marked_by, offers_by}
@@ -29,12 +29,6 @@ pub record KeepsOtherLanes (lane : ℕ) (old new : Laned) : Type 0 where
   pub ready : new.ready ≡ old.ready
   pub same : (other : ℕ) → other ≢ lane → listed_at new other ≡ listed_at old other
   pub listed : (other : ℕ) → other ≢ lane → IsListed old other → IsListed new other
-
--- all lanes were listed, marked and counted, and are spoilt no longer
-pub record ListsAll (world : View) (cores : List Core) (old new : Laned) : Type 0 where
-  pub usable : new.usable ≡ true
-  pub trees : new.trees ≡ old.trees
-  pub ready : AreReadyIn world cores new
 
 -- an offer of all of them was taken from one lane
 pub record TakesFrom (lane offer : ℕ) (old new : Laned) : Type 0 where
@@ -89,6 +83,8 @@ IsMarkedIn held core block which done old new lane =
 
 -- nothing has changed but marks
 pub record ChangesMarks (old new : Laned) : Type 0 where
+  pub source : new.source ≡ old.source
+  pub opened : new.as_opened ≡ old.as_opened
   pub trees : new.trees ≡ old.trees
   pub stocks : new.stocks ≡ old.stocks
   pub lengths : new.lengths ≡ old.lengths

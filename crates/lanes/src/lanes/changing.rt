@@ -20,8 +20,7 @@ use world::World;
 
 impl<'s, A: Allocator, B: Allocator + Clone> Lanes<'s, A, B> {
     ghost use Rattle.std.specs.Prelude.{◌≡◌, ◌<◌, MatchResult, OnOk, IfOk, length, slice_index, true};
-    ghost use Rattle.scenario.specs.Tree.{Tree};
-    ghost use Rattle.lanes.specs.Fitting.{LanesFit};
+    ghost use Rattle.lanes.specs.Fitting.{KeepSource};
     ghost use Rattle.lanes.specs.Lanes.{IsSpoilt, listed_at, offers_at};
     ghost use Rattle.lanes.specs.Picks.{AreLeftBehind, FollowsPick, HasPick};
     ghost use Rattle.lanes.specs.inner.Kept.{IsLevel, IsListed};
@@ -49,7 +48,7 @@ impl<'s, A: Allocator, B: Allocator + Clone> Lanes<'s, A, B> {
         ensures made { MatchResult result
             (λ _. FollowsPick pick.now made.now turned world.now cores.now self.old self.new)
             (λ _. IsSpoilt self.new) }
-        ensures fits { (tree : Tree) → LanesFit self.old tree → LanesFit self.new tree }
+        ensures stays { KeepSource self.old self.new }
     {
         let anew = self.take_picked(alloc, pick, world)?;
         prove!(self.usable);
@@ -73,7 +72,7 @@ impl<'s, A: Allocator, B: Allocator + Clone> Lanes<'s, A, B> {
         ensures there { IfOk result (IsLaneThere self.new) }
         ensures marked { IfOk result (IsMarkedAnew world.now self.new) }
         ensures were { IfOk result (WereReadyBut world.now self.old self.new) }
-        ensures fits { (tree : Tree) → LanesFit self.old tree → LanesFit self.new tree }
+        ensures stays { KeepSource self.old self.new }
     {
         match *pick {
             Pick::Offer { lane, place, .. } => {
@@ -143,7 +142,7 @@ impl<'s, A: Allocator, B: Allocator + Clone> Lanes<'s, A, B> {
         requires offered { place < length (offers_at self.old lane) }
         ensures takes { MatchResult result (λ _. TakesPlace lane place self.old self.new) (λ _. IsSpoilt self.new) }
         ensures marks { IfOk result (IsLaneMarkedIf world.now lane self.old self.new) }
-        ensures fits { (tree : Tree) → LanesFit self.old tree → LanesFit self.new tree }
+        ensures stays { KeepSource self.old self.new }
     {
         self.usable = false;
         let repeats = self.lanes[lane].rest.pass_on(alloc, place)?;
@@ -164,12 +163,14 @@ impl<'s, A: Allocator, B: Allocator + Clone> Lanes<'s, A, B> {
         requires there { lane < length self.old.trees }
         ensures spoilt { IsSpoilt self.new }
         ensures trees { OnOk result (self.new.trees ≡ self.old.trees) }
+        ensures source { self.new.source ≡ self.old.source }
         ensures stocks { self.new.stocks ≡ self.old.stocks }
         ensures level { OnOk result (IsLevel self.new) }
         ensures listed { OnOk result (IsListed self.new lane) }
         ensures others { OnOk result (KeepsOtherLanes lane self.old self.new) }
         ensures marks { IfOk result (IsLaneMarkedIf world.now lane self.old self.new) }
     {
+        self.as_opened[lane] = false;
         let anew = self.lanes[lane].list(world)?;
         let offers = self.lanes[lane].asks.asks();
         self.lengths.set(lane, offers.len() as u32);

@@ -26,3 +26,10 @@ pub record GoesOn (pick : Pick) (step : Step) (made : Made) (world : View) (core
   pub told : made ≡ made_of world.tables world.state step
   pub leads : IsAt (seen_of world_now cores_now lanes_now) (moment_after world.tables (moment_of world cores lanes) (choice_of lanes pick))
   pub holds : Holds world_now.tables world_now.state cores_now lanes_now
+
+-- the world is under the same shape, tables and opening values, and lanes are restarted from the same source
+pub record StaysUnder (world new : View) (lanes lanes_now : Laned) : Type 0 where
+  pub shape : new.shape ≡ world.shape
+  pub tables : new.tables ≡ world.tables
+  pub opening : new.opening ≡ world.opening
+  pub source : lanes_now.source ≡ lanes.source

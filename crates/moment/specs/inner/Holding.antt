@@ -1,9 +1,10 @@
 -- What holds of every moment that is usable.
 use Rattle.std.specs.Prelude.{◌≡◌, true, List, Some, None, if◌then◌else◌}
 use Rattle.tables.specs.Tables.{Tables}
-use Rattle.machine.specs.Machine.{State}
+use Rattle.machine.specs.Machine.{State, opened}
 use Rattle.cores.specs.Cores.{Core}
-use Rattle.lanes.specs.Lanes.{AreReady, Laned, whole}
+use Rattle.scenario.specs.Tree.{Both, trees_of}
+use Rattle.lanes.specs.Lanes.{AreReady, IsSourceIn, Laned, whole}
 use Rattle.moment.specs.Moments.{Moment}
 use Rattle.moment.specs.Seen.{Seen}
 use Rattle.world.specs.View.{View}
@@ -15,9 +16,10 @@ pub record Holds (tables : Tables) (state : State) (cores : List Core) (lanes : 
   pub ready : AreReady tables state cores lanes
   pub tracked : IsTracked state cores
 
--- so it is of a moment that isn't spoilt
-abbrev pub IsSound : {A B : Type 0} → Inside A B → Type 0
-IsSound m = m.lanes.usable ≡ true → Holds m.world.tables m.world.state m.cores m.lanes
+-- the marks of the lanes' source are right where the world is as it opens; and where the moment isn't spoilt, all of this holds
+pub record IsSound {A B : Type 0} (m : Inside A B) : Type 0 where
+  pub source : IsSourceIn m.world.tables (opened m.world.shape m.world.opening) m.lanes
+  pub holds : m.lanes.usable ≡ true → Holds m.world.tables m.world.state m.cores m.lanes
 
 -- the moment that is at a world, cores and lanes
 abbrev pub moment_of : View → List Core → Laned → Moment
@@ -29,6 +31,7 @@ seen_of world cores lanes = record {
   shape = world.shape;
   tables = world.tables;
   opening = world.opening;
+  scenario = Both (trees_of lanes.source.trees);
   now = if lanes.usable then Some (moment_of world cores lanes) else None;
 }
 

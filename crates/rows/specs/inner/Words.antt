@@ -1,6 +1,6 @@
 -- Flags as the bits of words of 64.
 use Rattle.std.specs.Prelude.{◌≡◌, ℕ, ◌+◌, ◌*◌, ◌/◌, ◌%◌, ◌<◌, ◌≤◌, ◌^◌, List, Bool, zero, suc, ◌==◌}
-use Rattle.std.specs.Prelude.{length, map, slice_index}
+use Rattle.std.specs.Prelude.{length, map, slice_index, drop, take, ◌++◌}
 use Rattle.std.specs.Int.{bit_at}
 use Rattle.std.specs.Int.RustNames.{count_ones}
 use Rattle.std.specs.List.{range_with_len}
@@ -29,3 +29,7 @@ pub record IsRowOfWords (words : List ℕ) (places ones : ℕ) : Type 0 where
   pub clean : (at : ℕ) → places ≤ at → bit words at ≡ 0
   pub few : places < 2 ^ 32
   pub counted : ones ≡ set_count (flags_of words places)
+
+-- as many words of a row as both have, in the place of those of another
+abbrev pub copied : List ℕ → List ℕ → List ℕ
+copied from to = take (length to) from ++ drop (length from) to

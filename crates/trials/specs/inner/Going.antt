@@ -8,6 +8,7 @@ use Rattle.machine.specs.Machine.{after, opened}
 use Rattle.monitor.specs.declared.violation.Violation.{Violation}
 use Rattle.monitor.specs.Watching.{AnswersLast}
 use Rattle.world.specs.View.{View}
+use Rattle.scenario.specs.Alike.{Alike}
 use Rattle.scenario.specs.Tree.{Tree}
 use Rattle.schedule.specs.Words.{dice, dice_after, word_of}
 use Rattle.moment.specs.Moments.{Moment}
@@ -37,6 +38,11 @@ pub record IsUnder (terms : Terms) (m : Seen) : Type 0 where
   pub tables : m.tables ≡ terms.tables
   pub opening : m.opening ≡ terms.opening
 
+-- and it is restarted from this scenario, or from one that is alike
+pub record IsOf (terms : Terms) (tree : Tree) (m : Seen) : Type 0 where
+  pub under : IsUnder terms m
+  pub scenario : Alike m.scenario tree
+
 -- the recording's entries were told by a path, and the parts are as the path's last moment is
 pub record IsGoing (terms : Terms) (tree : Tree) (number : ℕ) (c : Course) : Type 0 where
   pub under : IsUnder terms c.moment
@@ -59,7 +65,7 @@ blank terms = opened_recording terms.shape terms.tables terms.opening
 
 -- the parts of a trial that starts
 pub record Starts (terms : Terms) (tree : Tree) (number : ℕ) (c : Course) : Type 0 where
-  pub under : IsUnder terms c.moment
+  pub of : IsOf terms tree c.moment
   pub at : IsAt c.moment (first_moment terms tree)
   pub dice : c.dice ≡ dice terms.seed number
   pub recording : c.recording ≡ blank terms

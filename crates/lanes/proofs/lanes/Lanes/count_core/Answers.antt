@@ -5,7 +5,7 @@ use Rattle.lanes.specs.declared.lanes.Lane.{Lane}
 use Rattle.lanes.specs.declared.lanes.Lanes.TheInside.{Inside}
 use Rattle.lanes.specs.inner.Changes.{ChangesCounts, IsCountedIn}
 use Rattle.lanes.specs.inner.Kept.{laned, lanes_of, listed_in}
-use Rattle.lanes.proofs.Counting.{level-counts, listed-counts}
+use Rattle.lanes.proofs.Counting.{level-counts, listed-counts, opened-counts}
 use Rattle.lanes.proofs.Listing.{lane-low}
 use Rattle.lanes.proofs.Reached.{row-items, rows_in}
 use Rattle.lanes.proofs.lanes.Lanes.count_core.Given as given
@@ -14,6 +14,9 @@ use Rattle.lanes.proofs.lanes.Lanes.count_core.Goals as goal
 -- the lanes behind it
 abbrev made : (g : given.Over) → goal.After-count_each g → Inside g.row.A.Denot g.row.B.Denot
 made g c = record {
+  sources = c.self.inside.sources;
+  marks = c.self.inside.marks;
+  as_opened = c.self.inside.as_opened;
   lanes = c.self.inside.lanes;
   lengths = c.self.inside.lengths;
   ready = c.count_each.new.ready;
@@ -49,6 +52,7 @@ returns-clause-counts g c = rw (← c.self.view_is) (counts g c)
 pub invariant_of-self : goal.invariant_of-self
 invariant_of-self g c = record {
   level = level-counts (laned c.self.inside) (laned (made g c)) (counts g c) c.self.invariant.level;
+  opened = opened-counts (laned c.self.inside) (laned (made g c)) (counts g c) c.self.invariant.opened;
   listed = λ usable. listed-counts (laned c.self.inside) (laned (made g c)) (counts g c) (c.self.invariant.listed usable);
 }
 

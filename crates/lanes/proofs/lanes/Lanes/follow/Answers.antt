@@ -7,8 +7,7 @@ use Rattle.lanes.specs.Lanes.{Laned}
 use Rattle.lanes.specs.Picks.{choice_of}
 use Rattle.lanes.specs.inner.Changes.{AgreeBut, AreMarked}
 use Rattle.lanes.specs.inner.Kept.{AreListed}
-use Rattle.lanes.specs.Fitting.{lane_trees}
-use Rattle.lanes.proofs.Fitting.{fits-same}
+use Rattle.lanes.proofs.Fitting.{keeps-both, keeps-same}
 use Rattle.lanes.proofs.Counting.{all-counted, counted-at-all, stays-agreed, stays-quiet, where-sound}
 use Rattle.lanes.proofs.Touched.{agree-but, was-sound}
 use Rattle.lanes.proofs.lanes.Lanes.follow.Goals as goal
@@ -56,11 +55,14 @@ count_anew-requires-clause-counted g c =
     counted-at-all c.args.cores.now c.changed_at-at.result c.mark_again-marked.new.self
     c.count_at.new.self c.count_at.ensures.counts c.count_at.ensures.each
 
-pub returns-clause-fits : goal.returns-clause-fits
-returns-clause-fits g c tree h =
-    fits-same c.take_picked.new.self.stocks c.count_anew.new.self.stocks (lane_trees tree)
+pub returns-clause-stays : goal.returns-clause-stays
+returns-clause-stays g c =
+    keeps-both c.args.self.now c.take_picked.new.self c.count_anew.new.self c.take_picked.ensures.stays
+    (keeps-same c.take_picked.new.self c.count_anew.new.self
+    (ap (λ (l : Laned). l.source) c.count_anew.ensures.counts.same ∙ ap (λ (l : Laned). l.source) c.count_at.ensures.counts.same
+    ∙ c.mark_again-marked.ensures.same.source)
     (ap (λ (l : Laned). l.stocks) c.count_anew.ensures.counts.same ∙ ap (λ (l : Laned). l.stocks) c.count_at.ensures.counts.same
-    ∙ c.mark_again-marked.ensures.same.stocks) (c.take_picked.ensures.fits tree h)
+    ∙ c.mark_again-marked.ensures.same.stocks))
 
-pub returns-in_err-anew-clause-fits : goal.returns-in_err-anew-clause-fits
-returns-in_err-anew-clause-fits g c = c.take_picked.ensures.fits
+pub returns-in_err-anew-clause-stays : goal.returns-in_err-anew-clause-stays
+returns-in_err-anew-clause-stays g c = c.take_picked.ensures.stays

@@ -5,7 +5,7 @@ use Rattle.lanes.specs.declared.lanes.Lanes.TheInside.{Inside}
 use Rattle.lanes.specs.declared.lanes.Lane.{Lane}
 use Rattle.lanes.specs.inner.Changes.{IsMarkedIn, ChangesMarks}
 use Rattle.lanes.specs.inner.Kept.{laned, lanes_of}
-use Rattle.lanes.proofs.Counting.{level-marks, listed-marks, marks-only}
+use Rattle.lanes.proofs.Counting.{level-marks, listed-marks, opened-marks, marks-only}
 use Rattle.lanes.proofs.Listing.{lane-low}
 use Rattle.lanes.proofs.Reached.{row-items, rows_in}
 use Rattle.lanes.proofs.lanes.Lanes.mark_core.Given as given
@@ -14,6 +14,9 @@ use Rattle.lanes.proofs.lanes.Lanes.mark_core.Goals as goal
 -- the lanes behind it
 abbrev made : (g : given.Over) → goal.After-mark_each g → Inside g.row.A.Denot g.row.B.Denot
 made g c = record {
+  sources = c.self.inside.sources;
+  marks = c.self.inside.marks;
+  as_opened = c.self.inside.as_opened;
   lanes = c.mark_each.new.lanes;
   lengths = c.self.inside.lengths;
   ready = c.self.inside.ready;
@@ -42,7 +45,7 @@ marks g c =
     let new = length-map c.mark_each.new.lanes.items (λ (l : Lane g.row.A.Denot g.row.B.Denot). l.asks) in
     let old = length-map c.self.inside.lanes.items (λ (l : Lane g.row.A.Denot g.row.B.Denot). l.asks) in
     marks-only c.args.held c.args.core c.args.block (lanes_of (rows_in c.self.inside.reached.items) c.args.core.0) c.args.done
-    (laned c.self.inside) (laned (made g c)) c.mark_each.ensures.trees c.mark_each.ensures.stocks refl refl refl refl
+    (laned c.self.inside) (laned (made g c)) refl refl c.mark_each.ensures.trees c.mark_each.ensures.stocks refl refl refl refl
     (omega (arith, count, new, old)) c.self.invariant.level.listed (each g c)
 
 pub returns-clause-same : goal.returns-clause-same
@@ -54,5 +57,6 @@ returns-clause-each g c = rw (← c.self.view_is) (each g c)
 pub invariant_of-self : goal.invariant_of-self
 invariant_of-self g c = record {
   level = level-marks (laned c.self.inside) (laned (made g c)) (marks g c) c.self.invariant.level;
+  opened = opened-marks (laned c.self.inside) (laned (made g c)) (marks g c) c.self.invariant.opened;
   listed = λ usable. listed-marks (laned c.self.inside) (laned (made g c)) (marks g c) (c.self.invariant.listed usable);
 }

@@ -4,8 +4,8 @@ use Rattle.lanes.specs.declared.lanes.Lane.{Lane}
 use Rattle.lanes.specs.declared.lanes.Lanes.TheInside.{Inside}
 use Rattle.lanes.specs.Lanes.{Laned}
 use Rattle.lanes.specs.inner.Changes.{marked_in}
-use Rattle.lanes.specs.inner.Kept.{AreListed, IsLevel, laned}
-use Rattle.lanes.proofs.Counting.{level-marked, marked-already, marked-listed}
+use Rattle.lanes.specs.inner.Kept.{AreAsOpened, AreListed, IsLevel, laned}
+use Rattle.lanes.proofs.Counting.{level-marked, marked-already, marked-listed, marked-opened}
 use Rattle.lanes.proofs.Listing.{lane-low, lane-marked}
 use Rattle.lanes.proofs.lanes.Lanes.mark_lane.Given as given
 use Rattle.lanes.proofs.lanes.Lanes.mark_lane.Goals as goal
@@ -16,6 +16,9 @@ marked g c = record { rest = c.index_mut.result.now.rest; asks = c.mark_all.new.
 
 abbrev made : (g : given.Over) → goal.After-self-1 g → Inside g.row.A.Denot g.row.B.Denot
 made g c = record {
+  sources = c.self.inside.sources;
+  marks = c.self.inside.marks;
+  as_opened = c.self.inside.as_opened;
   lanes = with_item c.self.inside.lanes c.args.lane (marked g c);
   lengths = c.self.inside.lengths;
   ready = c.self.inside.ready;
@@ -29,7 +32,7 @@ there g c = subst (λ (l : Laned). c.args.lane < length l.trees) (sym c.self.vie
 is : (g : given.Over) (c : goal.After-self-1 g) →
     laned (made g c) ≡ marked_in c.args.world.now.tables c.args.world.now.state c.args.lane (laned c.self.inside)
 is g c =
-    lane-marked c.args.world.now.tables c.args.world.now.state c.self.inside (made g c) c.args.lane c.index_mut.result.now (marked g c)
+    lane-marked c.args.world.now.tables c.args.world.now.state c.self.inside (made g c) c.args.lane c.index_mut.result.now (marked g c) refl refl
     (lane-low c.self.inside c.args.lane (there g c)) c.index_mut.ensures.value refl refl c.mark_all.ensures refl refl refl refl
 
 pub returns : goal.returns
@@ -43,6 +46,9 @@ pub invariant_of-self : goal.invariant_of-self
 invariant_of-self g c = record {
   level = subst IsLevel (sym (is g c))
       (level-marked c.args.world.now.tables c.args.world.now.state c.args.lane (laned c.self.inside) c.self.invariant.level);
+  opened = subst AreAsOpened (sym (is g c))
+      (marked-opened c.args.world.now.tables c.args.world.now.state c.args.lane (laned c.self.inside) c.self.invariant.level (there g c)
+      c.self.invariant.opened);
   listed = λ usable. subst AreListed (sym (is g c))
       (marked-listed c.args.world.now.tables c.args.world.now.state c.args.lane (laned c.self.inside) c.self.invariant.level (there g c)
       (c.self.invariant.listed usable));

@@ -1,42 +1,33 @@
-use Rattle.std.proofs.Common.{arith}
+use Rattle.std.proofs.Common.{ap, arith, length, sym, true≢false}
 use Rattle.std.proofs.lemmas.Grind.{common_steps}
+use Rattle.std.proofs.lemmas.List.{length-map}
+use Rattle.cursors.specs.Cursors.{remaining}
+use Rattle.scenario.specs.Tree.{plain}
+use Rattle.lanes.proofs.Opening.{none-opened}
 use Rattle.lanes.proofs.lanes.Lanes.unlisted.Goals as goal
 
-pub returns-in_err-lanes-clause-rest : goal.returns-in_err-lanes-clause-rest
-returns-in_err-lanes-clause-rest g c = grind (arith, common_steps)
-
 pub overflow_cast-len : goal.overflow_cast-len
-overflow_cast-len g c = grind (arith, common_steps)
+overflow_cast-len g c =
+    let few = c.in_ok-sources.ensures.few in
+    let same = ap length c.in_ok-lanes.ensures.rest in
+    let trees = length-map c.in_ok-lanes.lanes.items (λ l. remaining l.rest) in
+    let sources = length-map c.as_slice.result.now (λ s. plain s.now) in
+    let all = ap length c.as_slice.ensures.value in
+    omega (arith, few, same, trees, sources, all, c.len-2.ensures)
 
-pub returns-in_err-lengths-clause-rest : goal.returns-in_err-lengths-clause-rest
-returns-in_err-lengths-clause-rest g c = grind (arith, common_steps)
-
-pub overflow_cast-len-2 : goal.overflow_cast-len-2
-overflow_cast-len-2 g c = grind (arith, common_steps)
-
-pub returns-in_err-ready-clause-rest : goal.returns-in_err-ready-clause-rest
-returns-in_err-ready-clause-rest g c = grind (arith, common_steps)
-
-pub overflow_add-count : goal.overflow_add-count
-overflow_add-count g c = grind (arith, common_steps)
-
-pub returns-in_err-reached-clause-rest : goal.returns-in_err-reached-clause-rest
-returns-in_err-reached-clause-rest g c = grind (arith, common_steps)
-
-pub returns-clause-rest : goal.returns-clause-rest
-returns-clause-rest g c = grind (arith, common_steps)
-
-pub returns-in_err-lanes-clause-fits : goal.returns-in_err-lanes-clause-fits
-returns-in_err-lanes-clause-fits g c = grind (arith, common_steps)
-
-pub returns-in_err-lengths-clause-fits : goal.returns-in_err-lengths-clause-fits
-returns-in_err-lengths-clause-fits g c = grind (arith, common_steps)
-
-pub returns-in_err-ready-clause-fits : goal.returns-in_err-ready-clause-fits
-returns-in_err-ready-clause-fits g c = grind (arith, common_steps)
-
-pub returns-in_err-reached-clause-fits : goal.returns-in_err-reached-clause-fits
-returns-in_err-reached-clause-fits g c = grind (arith, common_steps)
-
-pub returns-clause-fits : goal.returns-clause-fits
-returns-clause-fits g c = c.in_ok-lanes.ensures.fits
+pub invariant_of-result : goal.invariant_of-result
+invariant_of-result g c =
+    let trees = length-map c.in_ok-lanes.lanes.items (λ l. remaining l.rest) in
+    record {
+      level = record {
+        sources = grind (arith, common_steps);
+        opened = grind (arith, common_steps);
+        listed = grind (arith, common_steps);
+        lengths = grind (arith, common_steps);
+        ready = grind (arith, common_steps);
+        few = grind (arith, common_steps);
+        rows = grind (arith, common_steps);
+      };
+      opened = none-opened _ c.len.result (grind (arith, common_steps));
+      listed = λ usable. absurd (true≢false (sym usable));
+    }

@@ -4,7 +4,7 @@ use Rattle.moment.proofs.Holding.{choices-seen}
 use Rattle.moment.proofs.moments.Moment.count.Goals as goal
 
 pub count-requires : goal.count-requires
-count-requires g c usable = (c.self.invariant usable).ready
+count-requires g c usable = (c.self.invariant.holds usable).ready
 
 pub returns : goal.returns
 returns g c =

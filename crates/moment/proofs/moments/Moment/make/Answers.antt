@@ -1,12 +1,18 @@
 use Rattle.lanes.specs.Lanes.{whole}
 use Rattle.lanes.specs.Picks.{choice_of}
 use Rattle.schedule.specs.Choices.{choices_of}
-use Rattle.moment.proofs.Behind.{choice-made, holds-behind}
+use Rattle.moment.proofs.Behind.{choice-made, holds-behind, like-behind, source-behind}
 use Rattle.moment.proofs.Holding.{pick-taken}
 use Rattle.moment.proofs.moments.Moment.make.Goals as goal
 
 pub invariant_of-self : goal.invariant_of-self
-invariant_of-self g c = holds-behind c.go_on.result _ _ _ _ _ _ _ c.go_on.ensures.made
+invariant_of-self g c = record {
+  source = source-behind _ _ _ _ c.go_on.ensures.under c.self.invariant.source;
+  holds = holds-behind c.go_on.result _ _ _ _ _ _ _ c.go_on.ensures.made;
+}
+
+pub returns-clause-like : goal.returns-clause-like
+returns-clause-like g c = rw (← c.self.view_is) (like-behind _ _ c.self.inside.cores _ _ _ c.go_on.ensures.under)
 
 pub returns-clause-made : goal.returns-clause-made
 returns-clause-made g c =

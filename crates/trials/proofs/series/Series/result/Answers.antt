@@ -1,6 +1,15 @@
 use Rattle.std.proofs.lemmas.Result.{IfOk-weaker}
+use Rattle.std.proofs.Common.{rules}
+use Rattle.scenario.specs.Alike.{Alike}
 use Rattle.scenario.specs.Tree.{plain}
 use Rattle.trials.proofs.series.Series.result.Goals as goal
+
+-- the course that goes on is of the series' scenario
+pub finish-requires : goal.finish-requires
+finish-requires g c =
+    let series = c.args.self.now in
+    let same : Alike c.in-Some.course.moment.scenario (plain series.scenario.now) = search rules in
+    c.in_ok-restart.ensures.ok (plain series.scenario.now) same
 
 pub returns-in-Some-clause-sound : goal.returns-in-Some-clause-sound
 returns-in-Some-clause-sound g c never =
