@@ -2,7 +2,7 @@ ghost use Rattle.std.specs.Prelude.{◌≡◌, ℕ, ◌+◌, ◌*◌, ◌<◌, �
 ghost use Rattle.std.specs.Prelude.{IfOk, IfSome, IsSome, OnErr, OnOk, length, replicate, slice_set};
 ghost use Rattle.std.specs.Int.{bit_at};
 ghost use Rattle.rows.specs.Flags.{HasPut, IsFirstFrom, IsKth, NoneFrom, is_set, set_count};
-ghost use Rattle.rows.specs.inner.Words.{copied, low};
+ghost use Rattle.rows.specs.inner.Words.{copied_over, low};
 
 use base::NoMemory;
 use std::alloc::Global;
@@ -53,7 +53,7 @@ impl Bits {
     }
 
     /// The flags of another row, of as many.
-    pub fn copy(&mut self, from: &Bits)
+    pub fn copy_from(&mut self, from: &Bits)
         requires { length from.now ≡ length self.old }
         ensures { self.new ≡ from.now }
     {
@@ -194,7 +194,7 @@ fn wipe(words: &mut Vec<u64>, ones: &mut u32)
 
 /// Copies words over as many others as there are.
 fn copy_over(words: &mut [u64], from: &[u64])
-    ensures { words.new ≡ copied from.now words.old }
+    ensures { words.new ≡ copied_over from.now words.old }
 {
     let count = words.len().min(from.len());
     words[..count].copy_from_slice(&from[..count]);

@@ -218,7 +218,7 @@ impl Asks {
         requires { length marks.now ≡ length self.old.asks }
         ensures { self.new ≡ record { asks = self.old.asks; unheld = marks.now } }
     {
-        self.unheld.copy(marks);
+        self.unheld.copy_from(marks);
     }
 
     /// Marks all asks anew.

@@ -31,5 +31,5 @@ pub record IsRowOfWords (words : List ℕ) (places ones : ℕ) : Type 0 where
   pub counted : ones ≡ set_count (flags_of words places)
 
 -- as many words of a row as both have, in the place of those of another
-abbrev pub copied : List ℕ → List ℕ → List ℕ
-copied from to = take (length to) from ++ drop (length from) to
+abbrev pub copied_over : List ℕ → List ℕ → List ℕ
+copied_over from to = take (length to) from ++ drop (length from) to

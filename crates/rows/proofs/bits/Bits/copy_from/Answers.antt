@@ -1,15 +1,15 @@
 use Rattle.std.proofs.Common.{List, ap, arith, drop, length, subst, sym, take, ◌++◌, ◌∙◌, ◌≡◌, ℕ}
 use Rattle.std.proofs.lemmas.Grind.{common_steps}
-use Rattle.rows.specs.inner.Words.{IsRowOfWords, copied, flags_of}
+use Rattle.rows.specs.inner.Words.{IsRowOfWords, copied_over, flags_of}
 use Rattle.rows.proofs.Copying.{copied-row}
 use Rattle.rows.proofs.Words.{flags-length}
-use Rattle.rows.proofs.bits.Bits.copy.Goals as goal
+use Rattle.rows.proofs.bits.Bits.copy_from.Goals as goal
 
 -- the words behind it
 abbrev words : goal.After-self-2-1 → List ℕ
 words c = take c.self.inside.words.len (c.copy_over.new.words ++ drop (length c.copy_over.new.words) c.self.inside.words.items)
 
-words-are : (c : goal.After-self-2-1) → words c ≡ copied c.from.inside.words.items c.self.inside.words.items
+words-are : (c : goal.After-self-2-1) → words c ≡ copied_over c.from.inside.words.items c.self.inside.words.items
 words-are c = grind (arith, common_steps)
 
 -- both rows have as many flags
