@@ -14,6 +14,8 @@ PUBLIC_MODULE = re.compile(r"^pub mod (\w+);", re.M)
 # Lines of which a crate above reads nothing, and where those of an import begin.
 UNREAD = re.compile(r"^\s*(?://|#)")
 USES = re.compile(r"^\s*(?:ghost )?use ")
+# Where it begins to say what holds of the fields of a type that crates above see by its view alone.
+HOLDS = re.compile(r"^\s*ghost invariant = \{")
 
 
 def crates():
@@ -109,7 +111,7 @@ def is_of_trait(block):
 
 @cache
 def outline(text):
-    """What crates above see of a file, and a little more: no bodies, no private functions, comments, attributes or imports.
+    """What crates above see of a file, and a little more: no bodies, no private functions, invariants, comments, attributes or imports.
 
     Of the functions the public ones stay, and those of traits and their impls, each with its clauses; all other items stay whole."""
     lines, dropped = text.split("\n"), set()
@@ -117,17 +119,18 @@ def outline(text):
         at, head = head_of(lines, place)
         is_public = head[2] == "pub " or is_of_trait(block_around(lines, at))
         dropped.update(range(opening_of(lines, at, head[1]) + 1 if is_public else at, place.last))
-    return without_imports(line for number, line in enumerate(lines) if number not in dropped)
+    told = (line.rstrip() for number, line in enumerate(lines) if number not in dropped)
+    return [line for line in without(HOLDS, "};", without(USES, ";", told)) if line and not UNREAD.match(line)]
 
 
-def without_imports(lines):
-    """Those of some lines of code that say something, imports apart."""
-    kept, is_in_use = [], False
+def without(opens, closes, lines):
+    """Some lines, without those from each that opens something to the one that ends as that closes."""
+    kept, is_inside = [], False
     for line in lines:
-        is_in_use = is_in_use or USES.match(line) is not None
-        if not is_in_use and not UNREAD.match(line) and line.strip():
-            kept.append(line.rstrip())
-        is_in_use = is_in_use and not line.rstrip().endswith(";")
+        is_inside = is_inside or opens.match(line) is not None
+        if not is_inside:
+            kept.append(line)
+        is_inside = is_inside and not line.endswith(closes)
     return kept
 
 

@@ -20,7 +20,7 @@ use Rattle.machine.specs.Block.{BlockState, IsBlockAmong}
 use Rattle.machine.specs.Transition.{without}
 use Rattle.machine.proofs.Whole.{whole-at_line, whole-at_home}
 use Rattle.blocks.specs.View.{line_or}
-use Rattle.blocks.specs.inner.Access.{one_if}
+use Rattle.network.specs.Room.{one_if}
 use Rattle.blocks.specs.inner.Lined.{IsHeld, kept_lines, lines_of}
 use Rattle.blocks.specs.inner.Named.{HomeNames, IsKept, IsKeptIf}
 use Rattle.blocks.proofs.Access.{recounted}

@@ -9,7 +9,8 @@ use Rattle.control.specs.declared.line.Line.{Line}
 use Rattle.control.specs.LineEffect.{is_reader, is_writer, opened_line}
 use Rattle.control.proofs.HomeSends.{no-flag}
 use Rattle.machine.specs.Block.{opened_block}
-use Rattle.blocks.specs.inner.Access.{one_if}
+use Rattle.network.specs.Room.{one_if}
+use Rattle.blocks.proofs.Access.{by-ones}
 use Rattle.blocks.specs.inner.Lined.{IsHeld, kept_lines, lines_of}
 use Rattle.blocks.specs.inner.Named.{Each, NamesOnLink}
 
@@ -29,7 +30,10 @@ none-counted : (test : CacheState → Bool) → test opened_line.state ≡ false
     0 ≡ count_by (λ (line : Line). test line.state) (replicate n opened_line)
 none-counted test fails zero = refl
 none-counted test fails (suc n) =
-    omega (arith, ap one_if fails, none-counted test fails n, sum_by-cons (λ (l : Line). one_if (test l.state)) opened_line (replicate n opened_line))
+    let first = ap one_if fails in
+    let one = by-ones test (opened_line ∷ replicate n opened_line) in
+    let rest = by-ones test (replicate n opened_line) in
+    omega (arith, first, one, rest, none-counted test fails n, sum_by-cons (λ (l : Line). one_if (test l.state)) opened_line (replicate n opened_line))
 
 -- nothing is named in a block that opens
 pub held-opened : (caches value : ℕ) → caches < 2 ^ 32 → IsHeld (opened_block caches value) (replicate caches None) 0 0

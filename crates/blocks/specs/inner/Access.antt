@@ -1,12 +1,9 @@
 -- Who may read and write a block, as it is counted and looked for.
 use Rattle.std.specs.Prelude.{ℕ, ◌+◌, ◌<◌, ◌≤◌, ◌^◌, List, Option, Some, None, Bool, if◌then◌else◌, min, slice_index_or}
 use Rattle.base.specs.declared.ids.CacheId.{CacheId}
+use Rattle.network.specs.Room.{one_if}
 use Rattle.control.specs.declared.line.Line.{Line}
 use Rattle.control.specs.LineEffect.{is_writer, opened_line}
-
--- one, if something is so
-abbrev pub one_if : Bool → ℕ
-one_if is = if is then 1 else 0
 
 -- a count follows one that was counted or wasn't, and is so from now on or isn't: it can be taken back, and there is room for it
 pub record CanRecount (count : ℕ) (before after : Bool) : Type 0 where

@@ -1,6 +1,7 @@
 ghost use Rattle.std.specs.Prelude.{◌≡◌, ◌+◌, slice_get};
 ghost use Rattle.control.specs.LineEffect.{is_reader, is_writer};
-ghost use Rattle.blocks.specs.inner.Access.{CanRecount, lesser, one_if, writer_on};
+ghost use Rattle.network.specs.Room.{one_if};
+ghost use Rattle.blocks.specs.inner.Access.{CanRecount, lesser, writer_on};
 ghost use Rattle.blocks.specs.inner.Lined.{lines_of};
 ghost use Rattle.blocks.specs.Looks.{writer_in};
 
