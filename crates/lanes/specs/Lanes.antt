@@ -28,8 +28,9 @@ pub record Source : Type 0 where
   pub trees : List Tree
   pub marks : List (List Bool)
 
--- what lanes are restarted from, and whether of each lane this is listed; of each lane the tree that is left, the parts of its cursor, what it offers, how many offers that is, and how many of them
--- can be put; of each core the lanes that may offer an ask of it; and whether they aren't spoilt
+-- what lanes are restarted from, and of each whether what is listed is about that; of each lane the tree that is left, the parts of its
+-- cursor, what it offers, how many offers that is, and how many of them can be put; of each core the lanes that may offer an ask of it;
+-- and whether they aren't spoilt
 pub record Laned : Type 0 where
   pub source : Source
   pub as_opened : List Bool

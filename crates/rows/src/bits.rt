@@ -52,7 +52,7 @@ impl Bits {
         })
     }
 
-    /// The flags of another row, of as many.
+    /// Takes on the flags of another row, which has as many.
     pub fn copy_from(&mut self, from: &Bits)
         requires { length from.now ≡ length self.old }
         ensures { self.new ≡ from.now }
