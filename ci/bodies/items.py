@@ -45,15 +45,20 @@ def chunks(lines, opens):
     return rows
 
 
+def head_of_block(lines):
+    """The lines of an `impl` or a `trait` up to the brace that opens it, and what BLOCK finds there."""
+    head = lines[: next((at for at, line in enumerate(lines) if line.endswith("{")), 0) + 1]
+    return head, BLOCK.match(" ".join(head))
+
+
 def items_of_block(lines):
     """The functions of an `impl`, each by itself, and what else stands in it. One of a trait is one item, as a trait is."""
-    opening = next((at for at, line in enumerate(lines) if line.endswith("{")), 0)
-    block = BLOCK.match(" ".join(lines[: opening + 1]))
+    head, block = head_of_block(lines)
     names = names_of(block)
     if block[1] == "trait" or len(names) > 1:
         return [item(names[-1:], lines)]
-    head, found = lines[: opening + 1], []
-    for rest in chunks(lines[opening + 1 :], FUNCTION):
+    found = []
+    for rest in chunks(lines[len(head) :], FUNCTION):
         function = FUNCTION.match(rest[0])
         found.append(item([function[3]] if function else names, head + rest))
     return found
@@ -61,10 +66,8 @@ def items_of_block(lines):
 
 def is_above(lines, file, folder):
     """Whether crates above see by its name what some lines of a file of code declare."""
-    block = BLOCK.match(lines[0])
-    if block:
-        head = BLOCK.match(" ".join(lines[: next((at for at, line in enumerate(lines) if line.endswith("{")), 0) + 1]))
-        return all(is_type_above(name, folder) for name in names_of(head))
+    if BLOCK.match(lines[0]):
+        return all(is_type_above(name, folder) for name in names_of(head_of_block(lines)[1]))
     declared = DECLARES.search(lines[0])
     if declared is None:
         return True
